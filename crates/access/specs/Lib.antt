@@ -1,0 +1,3 @@
+pub mod Checks
+pub mod Access
+pub mod Pairs

@@ -1,0 +1,9 @@
+pub mod Rules
+pub mod Calls
+pub mod Model
+pub mod Ledger
+pub mod Runs
+pub mod Claim
+pub mod Answers
+pub mod Counters
+pub mod Cases
