@@ -1,1 +1,19 @@
+-- The laws that other crates cite, and the claims.
+pub mod Words
+pub mod Setup
+pub mod Operand
+pub mod Settings
+pub mod Accepted
+pub mod ResetTable
+pub mod Holders
+pub mod Control
+pub mod Window
+pub mod Invariant
+pub mod Steps
+pub mod Lists
+pub mod Kept
+pub mod ReadBack
+pub mod Claim
+pub mod Answers
+pub mod Counters
 pub mod Cases

@@ -26,6 +26,9 @@ pub record Answered (s : State) (su : Setup) (cs : List Call) : Type 0 where
   -- a call with good arguments is accepted
   pub good : (c : Call) → T (not (isReset c)) → first (argumentChecks (ledgerAfter s su cs .setup) c) 0 ≡ 0 → T (accepted (answerAfter s su cs c))
 
+pub record Answering : Type 0 where
+  pub always : (s : State) (su : Setup) (cs : List Call) → step s (reset su) .answer ≡ done → Answered s su cs
+
 -- each STATUS under its own condition and no other
 pub record Statuses : Type 0 where
   pub alloc : (su : Setup) (configured : List ℕ) (bw v : ℕ)

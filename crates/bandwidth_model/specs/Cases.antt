@@ -1,12 +1,13 @@
--- Document 01's cases P1 to P12 ("One controller worked through") as calls with their answers.
+-- Document 01's cases P1 to P12 ("One controller worked through") and others of its rules, as calls with their answers.
+use mathlib.Core.Path.{_≡_}
 use mathlib.Core.List.{List, [], _∷_}
 use Prim.Native.Nat.{ℕ}
 use lib.ListN.{replicate}
-use Rattle.monitor.specs.Monitor.{Monitor}
-use Rattle.bandwidth_model.specs.Rules.{Setup}
+use Rattle.bandwidth_model.specs.Rules.{Setup, poolOf}
 use Rattle.bandwidth_model.specs.Calls.{Call, reset, read, write, request, endWindow, Answer, refused, done, value, granted}
 use Rattle.bandwidth_model.specs.Model.{State}
 use Rattle.bandwidth_model.specs.Ledger.{Event}
+use Rattle.bandwidth_model.specs.Runs.{after, events}
 
 infix 70 _answers_
 abbrev pub _answers_ : Call → Answer → Event
@@ -16,11 +17,11 @@ _answers_ c a = record { call = c; answer = a }
 abbrev pub board : ℕ → Setup
 board na = record { nbwblks = 100; mrbwb = 80; nr = 4; na = na; nm = 4; q = 64; w = 24 }
 
--- a record and tables of the right lengths that were never reset
+-- a record and tables of the right lengths that were never reset, and are not well formed
 abbrev pub blank : ℕ → State
 blank pairs = record {
   setup = board 2;
-  alloc = record { ctl = 7; bw = 7; configured = replicate pairs 3 };
+  alloc = record { ctl = 7; bw = 7; configured = replicate pairs 0xffffffff };
   usage = record { active = replicate pairs 3; used = replicate pairs 3; pool = 7 };
   monitor = record { ctl = 7; value = 7; counters = replicate 4 3; events = replicate 4 3 };
 }
@@ -54,10 +55,6 @@ p1to10 =
     ∷ write 8 8 0x400201 answers done ∷ read 8 8 answers value 0x0000000400400201
     ∷ []
 
--- P9: 1,920 bytes come from the reservation of RCID 1 and 80 from the pool, which had 1,280
-abbrev pub p9used : List ℕ
-p9used = 0 ∷ 0 ∷ 1920 ∷ 0 ∷ 0 ∷ 0 ∷ 0 ∷ 0 ∷ []
-
 -- P11: RCID 0 with AT 0 holds 80 blocks, and MCID 1 counts all bytes
 abbrev pub p11before : State
 p11before = record {
@@ -73,3 +70,38 @@ p11 = request 0 1 0 0 300 answers granted 300 ∷ write 8 8 0x102 answers done �
 
 abbrev pub p12 : List Event
 p12 = reset (board 1) answers done ∷ write 8 24 0x121 answers done ∷ read 4 24 answers value 0x101 ∷ []
+
+-- halves, read-only registers and refusals 1 to 7 but 3
+abbrev pub accesses : List Event
+accesses =
+    reset (board 2) answers done ∷ write 4 32 0x1e answers done ∷ write 4 24 1 answers done
+    ∷ read 4 24 answers value 1 ∷ read 4 28 answers value 1
+    -- a write of the high half alone does nothing
+    ∷ write 4 28 2 answers done ∷ write 4 36 7 answers done ∷ read 8 24 answers value 0x100000001 ∷ read 8 32 answers value 0x1e ∷ read 4 36 answers value 0
+    -- nor does one of a read-only register
+    ∷ write 8 0 7 answers done ∷ read 4 0 answers value 0x6401 ∷ read 4 4 answers value 0x50 ∷ write 8 16 7 answers done ∷ read 8 16 answers value 0
+    -- bits that no field names are dropped
+    ∷ write 8 32 0xffffffffffffffff answers done ∷ read 8 32 answers value 0xfff0ffff
+    ∷ read 2 0 answers refused 4 ∷ read 8 36 answers refused 5 ∷ read 4 40 answers refused 5 ∷ write 4 0 0x100000000 answers refused 6
+    ∷ request 4 0 0 0 1 answers refused 7 ∷ request 0 4 0 0 1 answers refused 7
+    ∷ reset (board 9) answers refused 1 ∷ reset (board 1) answers refused 2 ∷ endWindow answers done
+    ∷ []
+
+-- a record that was never reset is refused
+abbrev pub never : List Event
+never = endWindow answers refused 3 ∷ read 2 41 answers refused 3 ∷ []
+
+abbrev pub callsOf : List Event → List Call
+callsOf [] = []
+callsOf (e ∷ es) = e .call ∷ callsOf es
+
+-- the calls get these answers; and of P9's bytes 1,920 are from the reservation of RCID 1 and 80 from the pool, which had 1,280
+pub record Cases : Type 0 where
+  pub worked : events (blank 8) (callsOf p1to10) ≡ p1to10
+  pub p9used : after (blank 8) (callsOf p1to10) .usage .used ≡ 0 ∷ 0 ∷ 1920 ∷ 0 ∷ 0 ∷ 0 ∷ 0 ∷ 0 ∷ []
+  pub p9given : after (blank 8) (callsOf p1to10) .usage .pool ≡ 80
+  pub p9pool : poolOf (board 2) (after (blank 8) (callsOf p1to10) .usage .active) ≡ 1280
+  pub wraps : events p11before (callsOf p11) ≡ p11
+  pub held : events (blank 4) (callsOf p12) ≡ p12
+  pub halves : events (blank 8) (callsOf accesses) ≡ accesses
+  pub unformed : events (blank 8) (callsOf never) ≡ never

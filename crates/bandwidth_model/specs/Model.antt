@@ -138,12 +138,13 @@ unfoldable pub readAt : State → ℕ → ℕ → ℕ
 readAt s size offset = access.part size offset (register s (access.registerAt offset))
 
 -- the fields are stored and the operation is performed
-unfoldable pub writeAlloc : Setup → Allocation → ℕ → Allocation
-writeAlloc su a v = record {
-  ctl = allocWord su v (allocStatus su (a .configured) (a .bw) v);
-  bw = bwAfter su (a .configured) (a .bw) v;
-  configured = configuredAfter su (a .configured) (a .bw) v;
-}
+unfoldable pub writeAlloc : Setup → ℕ → List ℕ → ℕ → Allocation
+writeAlloc su bw configured v =
+    record {
+      ctl = allocWord su v (allocStatus su configured bw v);
+      bw = bwAfter su configured bw v;
+      configured = configuredAfter su configured bw v;
+    }
 
 unfoldable pub writeBw : Allocation → ℕ → Allocation
 writeBw a v = record { ctl = a .ctl; bw = bwWord v; configured = a .configured }
@@ -157,7 +158,7 @@ withMonitor s m = record { setup = s .setup; alloc = s .alloc; usage = s .usage;
 -- capabilities, mon_ctr_val and the high halves: the write does nothing
 unfoldable pub writeAt : State → ℕ → ℕ → State
 writeAt s offset v =
-    cond (access.writesLow offset access.allocCtl) (withAlloc s (writeAlloc (s .setup) (s .alloc) v))
+    cond (access.writesLow offset access.allocCtl) (withAlloc s (writeAlloc (s .setup) (s .alloc .bw) (s .alloc .configured) v))
     (cond (access.writesLow offset access.operand) (withAlloc s (writeBw (s .alloc) v))
     (cond (access.writesLow offset access.monCtl) (withMonitor s (writeMon (s .setup .na) (s .setup .nm) lastEvent (s .monitor) v)) s))
 

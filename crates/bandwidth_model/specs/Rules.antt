@@ -7,7 +7,7 @@ use lib.ListN.{set, replicate}
 use Rattle.fields.specs.Layout.{get, pack, kept}
 use Rattle.fields.specs.Registers as reg
 use Rattle.tables.specs.Below.{anyBelow, sumOf}
-use Rattle.access.specs.Checks.{_gives_, first}
+use Rattle.access.specs.Checks.{Check, _gives_, first}
 use Rattle.access.specs.Pairs.{pair, wordAt}
 
 -- ---- setting up
@@ -126,18 +126,18 @@ unfoldable pub badOperand : Setup → List ℕ → ℕ → ℕ → ℕ → Bool
 badOperand su table rcid at word =
     cond (eqb (useSharedOf word) 0) (badHolder su table rcid at word) (badSharer su table rcid at word)
 
--- the STATUS of the operation that a value written to alloc_ctl performs
-unfoldable pub allocStatus : Setup → List ℕ → ℕ → ℕ → ℕ
-allocStatus su configured bw v =
-    first
-    (
+-- the conditions of a STATUS, in checking order
+abbrev pub allocChecks : Setup → List ℕ → ℕ → ℕ → List Check
+allocChecks su configured bw v =
     (not (validOp (opOf v)) gives 2)
     ∷ (leb (su .nr) (rcidOf v) gives 3)
     ∷ (leb (su .na) (atOf su v) gives 4)
     ∷ ((eqb (opOf v) configLimit && badOperand su configured (rcidOf v) (atOf su v) bw) gives 5)
     ∷ []
-    )
-    1
+
+-- the STATUS of the operation that a value written to alloc_ctl performs
+unfoldable pub allocStatus : Setup → List ℕ → ℕ → ℕ → ℕ
+allocStatus su configured bw v = first (allocChecks su configured bw v) 1
 
 -- the value performs this operation, and it ends with STATUS 1
 unfoldable pub allocDone : Setup → List ℕ → ℕ → ℕ → ℕ → Bool

@@ -7,7 +7,7 @@ use lib.ListN.{getD, set, replicate}
 use Rattle.fields.specs.Layout.{Place, get, pack, kept}
 use Rattle.fields.specs.Registers as reg
 use Rattle.tables.specs.Below.{allBelow}
-use Rattle.access.specs.Checks.{_gives_, first}
+use Rattle.access.specs.Checks.{Check, _gives_, first}
 
 -- mon_ctl, mon_ctr_val, the lent counters, and the lent counter settings
 pub record Monitor : Type 0 where
@@ -60,18 +60,18 @@ validOp op = eqb op configEvent || eqb op readCounter
 unfoldable pub knownEvent : ℕ → ℕ → Bool
 knownEvent last event = leb event last
 
--- the STATUS of the operation that a value written to mon_ctl performs
-unfoldable pub monStatus : ℕ → ℕ → ℕ → ℕ → ℕ
-monStatus na nm last v =
-    first
-    (
+-- the conditions of a STATUS, in checking order
+abbrev pub monChecks : ℕ → ℕ → ℕ → ℕ → List Check
+monChecks na nm last v =
     (not (validOp (opOf v)) gives 2)
     ∷ (leb nm (mcidOf v) gives 3)
     ∷ ((eqb (opOf v) configEvent && not (knownEvent last (eventOf v))) gives 4)
     ∷ ((eqb (opOf v) configEvent && eqb (atvOf na v) 1 && leb na (atOf na v)) gives 5)
     ∷ []
-    )
-    1
+
+-- the STATUS of the operation that a value written to mon_ctl performs
+unfoldable pub monStatus : ℕ → ℕ → ℕ → ℕ → ℕ
+monStatus na nm last v = first (monChecks na nm last v) 1
 
 -- the value performs this operation, and it ends with STATUS 1
 unfoldable pub monDone : ℕ → ℕ → ℕ → ℕ → ℕ → Bool

@@ -1,17 +1,17 @@
 -- Laws of sums and tests over indexes and tables, of stores, and of the loops that fill a table.
 use mathlib.Core.Path.{_≡_, refl, sym, _∙_}
-use mathlib.Core.Bool.{Bool, true, not, _&&_, _||_}
+use mathlib.Core.Bool.{Bool, true, not, cond, _&&_, _||_}
 use mathlib.Core.List.{List, [], _∷_, _++_}
 use Prim.Native.Nat.{ℕ, zero, suc, _+_, _*_, _≤_, _<_}
 use native.Mathlib.Nat.{add-suc, add-zero, mul-suc, add-mul, not-suc-le-zero, le-of-suc-le-suc}
 use native.Mathlib.Numerals.{add-one}
 use native.Mathlib.Omega.{arith}
 use borrow.Author.Count.{below-more}
-use lib.Dec.{T}
-use lib.ListN.{length, getD, set, replicate, length-append, length-set, length-replicate, getD-replicate, List·getD-append}
+use lib.Dec.{T, ltb, ltb→lt, nltb→le}
+use lib.ListN.{length, getD, set, replicate, length-append, length-set, length-replicate, getD-replicate, List·getD-eq-default, List·getD-append}
 use lib.Seq.{getD-append-seam, getD-set-same, getD-set-other, ext-getD}
 use Rattle.tables.specs.Below.{sumBelow, allBelow, anyBelow, sumOf, allOf}
-use Rattle.tables.proofs.Tests.{and-l, and-r, and-in, or-l, or-r, not-both, not-in}
+use Rattle.tables.proofs.Tests.{cases, and-l, and-r, and-in, or-l, or-r, nor-in, not-both, not-in}
 
 -- ---- sums over the indexes below n
 
@@ -120,6 +120,11 @@ any-in (suc n) p i l =
 pub none-at : (n : ℕ) (p : ℕ → Bool) → T (not (anyBelow n p)) → (i : ℕ) → i < n → T (not (p i))
 none-at n p t i l = not-in (p i) (λ h. not-both (anyBelow n p) (any-in n p i l h) t)
 
+pub none-in : (n : ℕ) (p : ℕ → Bool) → ((i : ℕ) → i < n → T (not (p i))) → T (not (anyBelow n p))
+unfolding anyBelow
+none-in zero p h = tt
+none-in (suc n) p h = nor-in (anyBelow n p) (p n) (none-in n p (λ i l. h i (omega arith))) (h n (omega arith))
+
 -- ---- sums over the entries of a table
 
 pub sumOf-none : (f : ℕ → ℕ) → sumOf f [] ≡ 0
@@ -161,6 +166,21 @@ at-set P (y ∷ t) (suc i) (suc k) x d h p = at-set P t i k x d h p
 
 pub every-set : (P : ℕ → Type 0) (t : List ℕ) (i x : ℕ) → ((j : ℕ) → P (getD t j 0)) → P x → (j : ℕ) → P (getD (set t i x) j 0)
 every-set P t i x h p j = at-set P t i j x 0 (h j) p
+
+-- what holds of the n entries of a table, and of 0, holds at every index
+pub every-below : (p : ℕ → Bool) (t : List ℕ) (n : ℕ) → length t ≡ n → T (p 0) → T (allBelow n (λ i. p (getD t i 0)))
+    → (i : ℕ) → T (p (getD t i 0))
+every-below p t n l z a i =
+    cases (λ b. T (p (getD t i 0))) (ltb i n) (λ y. all-at n (λ j. p (getD t j 0)) a i (ltb→lt i n y))
+    (λ y. rw (List·getD-eq-default t 0 {n = i} (omega (arith, nltb→le i n y))) z)
+
+-- a store where a test holds
+pub every-stored : (P : ℕ → Type 0) (b : Bool) (t : List ℕ) (i x : ℕ) → ((j : ℕ) → P (getD t j 0)) → (T b → P x)
+    → (j : ℕ) → P (getD (cond b (set t i x) t) j 0)
+every-stored P b t i x h p j = cases (λ a. P (getD (cond a (set t i x) t) j 0)) b (λ y. every-set P t i x h (p y) j) (λ n. h j)
+
+pub length-stored : {A : Type 0} (b : Bool) (t : List A) (i : ℕ) (x : A) → length (cond b (set t i x) t) ≡ length t
+length-stored b t i x = cases (λ a. length (cond a (set t i x) t) ≡ length t) b (λ y. length-set t i x) (λ n. refl)
 
 pub getD-zeros : (n i : ℕ) → _≡_ {A = ℕ} (getD (replicate n 0) i 0) 0
 getD-zeros zero i = refl

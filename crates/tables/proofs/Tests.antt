@@ -22,6 +22,10 @@ pub and-in : (a b : Bool) → T a → T b → T (a && b)
 and-in true b s t = t
 and-in false b s t = s
 
+pub nand-r : (a b : Bool) → T (not (a && b)) → T a → T (not b)
+nand-r true b t s = t
+nand-r false b t s = absurd s
+
 pub nor-l : (a b : Bool) → T (not (a || b)) → T (not a)
 nor-l true b t = t
 nor-l false b t = tt

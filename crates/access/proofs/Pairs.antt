@@ -1,0 +1,73 @@
+-- The place of a pair: inside the table, one for each pair, and the word there after a store.
+use mathlib.Core.Path.{_≡_, refl, sym, ap, _∙_}
+use mathlib.Core.Bool.{Bool, true, false, cond}
+use mathlib.Core.List.{List}
+use Prim.Native.Nat.{ℕ, zero, suc, _*_, _/_, _%_, _≤_, _<_}
+use native.Mathlib.Nat.{mul-le-mul-right, mul-add-mod-self-right, mod-eq-of-lt, mul-add-div-right, div-eq-of-lt, div-lt-iff-lt-mul, div-add-mod', mod-lt, mul-zero, zero-lt-suc}
+use native.Mathlib.Omega.{arith}
+use lib.Dec.{T, ltb, ltb→lt, lt→ltb}
+use lib.ListN.{length, set}
+use lib.Seq.{getD-set-same, getD-set-other}
+use Rattle.access.specs.Pairs.{pair, wordAt, knownAt}
+
+pub pair-inside : (nr na rcid at : ℕ) → rcid < nr → at < na → pair na rcid at < nr * na
+unfolding pair
+pair-inside nr na rcid at hr ha = omega (arith, mul-le-mul-right na hr)
+
+-- the AT and the RCID of a place
+place-at : (na rcid at : ℕ) → at < na → pair na rcid at % na ≡ at
+unfolding pair
+place-at na rcid at h = mul-add-mod-self-right rcid na at ∙ mod-eq-of-lt h
+
+place-rcid : (na rcid at : ℕ) → at < na → pair na rcid at / na ≡ rcid
+unfolding pair
+place-rcid na rcid at h =
+    let p : 0 < na = omega arith in
+    omega (arith, mul-add-div-right p rcid at, div-eq-of-lt h)
+
+pub pair-at : (na r a s b : ℕ) → a < na → b < na → pair na r a ≡ pair na s b → a ≡ b
+pair-at na r a s b h k e = sym (place-at na r a h) ∙ ap (λ (i : ℕ). i % na) e ∙ place-at na s b k
+
+pub pair-rcid : (na r a s b : ℕ) → a < na → b < na → pair na r a ≡ pair na s b → r ≡ s
+pair-rcid na r a s b h k e = sym (place-rcid na r a h) ∙ ap (λ (i : ℕ). i / na) e ∙ place-rcid na s b k
+
+-- the place i is that of the pair i / na and i % na
+pub record PairAt (nr na i : ℕ) : Type 0 where
+  pub is : i ≡ pair na (i / na) (i % na)
+  pub rcid-low : i / na < nr
+  pub at-low : i % na < na
+
+-- every place is that of a pair
+pub pair-of : (nr na i : ℕ) → i < nr * na → PairAt nr na i
+unfolding pair
+pair-of nr zero i l = absurd (omega (arith, mul-zero nr))
+pair-of nr (suc n) i l =
+    let na = suc n in
+    record { is = sym (div-add-mod' i na); rcid-low = div-lt-iff-lt-mul {y = nr} (zero-lt-suc n) .1 l; at-low = mod-lt i (zero-lt-suc n) }
+
+pub known-lt : (na at : ℕ) → 1 ≤ na → knownAt na at < na
+unfolding knownAt
+known-lt na at h = go (ltb at na) (ltb→lt at na)
+  where
+    go : (b : Bool) → (T b → at < na) → cond b at 0 < na
+    go true f = f tt
+    go false f = h
+
+-- an AT below NA is known as itself
+pub known-same : (na at : ℕ) → at < na → knownAt na at ≡ at
+unfolding knownAt
+known-same na at h = go (ltb at na) (lt→ltb at na h)
+  where
+    go : (b : Bool) → T b → cond b at 0 ≡ at
+    go true t = refl
+    go false t = absurd t
+
+pub word-set-same : (na : ℕ) (table : List ℕ) (rcid at v : ℕ) → pair na rcid at < length table
+    → wordAt na (set table (pair na rcid at) v) rcid at ≡ v
+unfolding wordAt
+word-set-same na table rcid at v h = getD-set-same table (pair na rcid at) v 0 h
+
+pub word-set-other : (na : ℕ) (table : List ℕ) (i v rcid at : ℕ) → (pair na rcid at ≡ i → ⊥)
+    → wordAt na (set table i v) rcid at ≡ wordAt na table rcid at
+unfolding wordAt
+word-set-other na table i v rcid at d = getD-set-other table i (pair na rcid at) v 0 d

@@ -1,0 +1,7 @@
+-- The laws that other crates cite.
+pub mod Control
+pub mod Operations
+pub mod Counters
+pub mod Settings
+pub mod Origins
+pub mod Monitor
