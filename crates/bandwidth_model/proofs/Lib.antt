@@ -1,4 +1,5 @@
 -- The laws that other crates cite, and the claims.
+pub mod Cases
 pub mod Words
 pub mod Setup
 pub mod Operand
@@ -16,4 +17,3 @@ pub mod ReadBack
 pub mod Claim
 pub mod Answers
 pub mod Counters
-pub mod Cases

@@ -74,7 +74,8 @@ p12 = reset (board 1) answers done ∷ write 8 24 0x121 answers done ∷ read 4 
 -- halves, read-only registers and refusals 1 to 7 but 3
 abbrev pub accesses : List Event
 accesses =
-    reset (board 2) answers done ∷ write 4 32 0x1e answers done ∷ write 4 24 1 answers done
+    -- RCID 0 with AT 0 holds 80 blocks, and the rest by its weight
+    reset (board 2) answers done ∷ request 0 0 0 0 7000 answers granted 6400 ∷ write 4 32 0x1e answers done ∷ write 4 24 1 answers done
     ∷ read 4 24 answers value 1 ∷ read 4 28 answers value 1
     -- a write of the high half alone does nothing
     ∷ write 4 28 2 answers done ∷ write 4 36 7 answers done ∷ read 8 24 answers value 0x100000001 ∷ read 8 32 answers value 0x1e ∷ read 4 36 answers value 0
