@@ -4,6 +4,7 @@ use mathlib.Core.Bool.{Bool, true, false, not, cond, _&&_}
 use mathlib.Core.List.{List, [], _∷_, _++_}
 use mathlib.Core.Logic.{_↔_}
 use Prim.Native.Nat.{ℕ, _<_}
+use native.Mathlib.Omega.{arith}
 use lib.Dec.{T, ltb, eqb, eqb→eq, ltb→lt}
 use Rattle.tables.proofs.Tests.{cases, and-l, and-r, neqb, eqb-in, cond-no}
 use Rattle.access.specs.Checks.{Check, _gives_, first, Rows}
@@ -37,6 +38,12 @@ none-holds n (c ∷ cs) o t e =
 pub all-fail : (cs : List Check) (o : ℕ) → Fails cs → first cs o ≡ o
 all-fail [] o f = refl
 all-fail (c ∷ cs) o f = rw (cond-no (c .holds) (c .number) (first cs o) (f .0)) (all-fail cs o (f .1))
+
+-- a condition that holds decides, whatever comes after
+pub first-other : (cs : List Check) (n o : ℕ) → 0 < n → first cs 0 ≡ n → first cs o ≡ n
+first-other [] n o h e = absurd (omega arith)
+first-other (c ∷ cs) n o h e =
+    (cases (λ b. cond b (c .number) (first cs 0) ≡ n → cond b (c .number) (first cs o) ≡ n) (c .holds) (λ y q. q) (λ y. first-other cs n o h)) e
 
 -- ---- a bound
 

@@ -12,12 +12,12 @@ use Rattle.access.specs.Access as access
 use Rattle.access.specs.Checks.{first}
 use Rattle.tables.specs.Below.{allBelow}
 use Rattle.tables.proofs.Laws.{all-in}
-use Rattle.tables.proofs.Tests.{and-in, not-in, not-both, eqb-in, cond-no}
+use Rattle.tables.proofs.Tests.{and-in, eqb-in}
 use Rattle.monitor.specs.Monitor.{monitorOk}
 use Rattle.monitor.specs.Bytes.{lastEvent}
 use Rattle.bandwidth_model.specs.Rules.{Setup, setupOk, pairs, reserved, bwWord, poolOf, allocStatus}
 use Rattle.bandwidth_model.specs.Calls.{Call, reset, read, write, request, endWindow, refused, done}
-use Rattle.bandwidth_model.specs.Model.{State, allocWord, tableOk, usageOk, registersOk, wellFormed, lengthsOk, argumentChecks, setupChecks, stateChecks, checks, refusal, step}
+use Rattle.bandwidth_model.specs.Model.{State, allocWord, tableOk, usageOk, registersOk, wellFormed, lengthsOk, argumentChecks, setupChecks, checks, refusal, step}
 use Rattle.bandwidth_model.specs.Ledger.{Window, Ledger, accepted}
 use Rattle.bandwidth_model.specs.Runs.{stateAfter, ledgerAfter, answerAfter}
 use Rattle.bandwidth_model.specs.Claim.{isReset}
@@ -28,7 +28,7 @@ use Rattle.monitor.proofs.Monitor.{monitor-ok}
 use Rattle.monitor.proofs.Operations.{monStatus-rows}
 use Rattle.bandwidth_model.proofs.Window.{used-in}
 use Rattle.bandwidth_model.proofs.Invariant.{Good, Inv}
-use Rattle.bandwidth_model.proofs.Steps.{accept, refused-is}
+use Rattle.bandwidth_model.proofs.Steps.{accept, refused-is, refusal-is, state-passes}
 use Rattle.bandwidth_model.proofs.Lists.{inv-after}
 
 -- ---- the state passes its checks
@@ -79,23 +79,9 @@ module _ {s : State} {asked granted : List ℕ} {sum : ℕ} {closed : List Windo
       (eqb-in (length (s .monitor .counters)) m (g .counters-long)))
       (eqb-in (length (s .monitor .events)) m (g .events-long))
 
-  fails-not : (b : Bool) → T b → T (not (not b))
-  fails-not b t = not-in (not b) (not-both b t)
-
-  state-passes : (rest : ℕ) → first (stateChecks s) rest ≡ rest
-  unfolding stateChecks setupChecks
-  state-passes rest =
-      cond-no {A = ℕ} (not (setupOk (s .setup))) 1 _ (fails-not (setupOk (s .setup)) (g .setup))
-      ∙ cond-no {A = ℕ} (not (lengthsOk (s .setup) s)) 2 _ (fails-not (lengthsOk (s .setup) s) lengths-ok)
-      ∙ cond-no {A = ℕ} (not (wellFormed s)) 3 rest (fails-not (wellFormed s) well-formed)
-
   by-argument : (c : Call) → T (not (isReset c)) → refusal s c ≡ first (argumentChecks (s .setup) c) 0
-  unfolding refusal checks isReset argumentChecks stateChecks setupChecks
-  by-argument (reset su) t = absurd t
-  by-argument (read size offset) t = state-passes (first (argumentChecks (s .setup) (read size offset)) 0)
-  by-argument (write size offset v) t = state-passes (first (argumentChecks (s .setup) (write size offset v)) 0)
-  by-argument (request rcid mcid at kind bytes) t = state-passes (first (argumentChecks (s .setup) (request rcid mcid at kind bytes)) 0)
-  by-argument endWindow t = state-passes (first (argumentChecks (s .setup) endWindow) 0)
+  by-argument c t =
+      refusal-is s c t ∙ state-passes s (record { setup = g .setup; lengths = lengths-ok; wellformed = well-formed }) (first (argumentChecks (s .setup) c) 0)
 
 -- ---- refusal 3 is none of an argument's or a set-up's
 
