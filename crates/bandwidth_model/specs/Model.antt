@@ -228,4 +228,4 @@ step s c = cond (eqb (refusal s c) 0) (perform s c) (refuse s (refusal s c))
 
 unfoldable pub rowOf : Setup → List ℕ → ℕ → List ℕ
 rowOf su configured rcid =
-    cond (setupOk su && eqb (length configured) (pairs su) && ltb rcid (su .nr)) (take (su .na) (drop (pair (su .na) rcid 0) configured)) []
+    cond (setupOk su && (eqb (length configured) (pairs su) && ltb rcid (su .nr))) (take (su .na) (drop (pair (su .na) rcid 0) configured)) []

@@ -5,3 +5,4 @@ pub mod Counters
 pub mod Settings
 pub mod Origins
 pub mod Monitor
+pub mod Steps

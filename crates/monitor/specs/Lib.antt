@@ -1,2 +1,3 @@
 pub mod Monitor
 pub mod Bytes
+pub mod View

@@ -1,0 +1,167 @@
+-- Checks 1 to 3 as facts, both ways, and what the first that fails gives.
+use mathlib.Core.Path.{_≡_, refl, sym, ap, subst, _∙_}
+use mathlib.Core.Bool.{Bool, true, false, not, cond, _&&_}
+use mathlib.Core.List.{List}
+use Prim.Native.Nat.{ℕ, _-_, _*_, _<_, _^_}
+use native.Mathlib.Nat.{mod-eq-of-lt}
+use lib.Bits.{and-mask}
+use lib.Dec.{T, leb, eqb, eqb→eq}
+use lib.ListN.{length, getD}
+use Rattle.fields.specs.Layout.{kept}
+use Rattle.fields.specs.Registers as reg
+use Rattle.fields.proofs.Registers.{bandwidthCounter-kept}
+use Rattle.access.specs.Checks.{first}
+use Rattle.tables.specs.Below.{allBelow}
+use Rattle.tables.proofs.Tests.{and-l, and-r, and-in, not-in, not-both, eqb-in, cond-yes, cond-no, is-true, is-false}
+use Rattle.monitor.specs.Monitor.{monWord, statusOf, counterOk, settingOk, monitorOk}
+use Rattle.monitor.specs.Bytes.{lastEvent}
+use Rattle.bandwidth_model.specs.Rules.{Setup, setupOk, pairs, reserved, total, poolOf}
+use Rattle.bandwidth_model.specs.Facts.{Ranges, Sized}
+use Rattle.bandwidth_model.specs.Model.{State, tableOk, usageOk, registersOk, lengthsOk, wellFormed, setupChecks, stateChecks}
+use Rattle.bandwidth_model.proofs.Setup.{setup-ok}
+use Rattle.bandwidth_model.proofs.Steps.{Passing}
+use Rattle.bandwidth_model.proofs.Settings.{TableFacts, table-facts}
+use Rattle.wellformed.specs.Tables.{tablesOk}
+use Rattle.bandwidth.specs.declared.check.Totals.{Totals}
+use Rattle.bandwidth.specs.declared.check.Check.{Check}
+use Rattle.bandwidth.specs.declared.check.Check.the-variants.{Passed, Failed}
+use Rattle.bandwidth.specs.Checked.{Passes, Checked}
+use Rattle.access.specs.declared.Refusal.{Refusal}
+use Rattle.access.specs.Refusals.{numberOf}
+
+-- two tests that pass together are one
+pub same-test : (a b : Bool) → (T a → T b) → (T b → T a) → a ≡ b
+same-test true b f g = sym (is-true b (f tt))
+same-test false b f g = sym (is-false b (not-in b (λ t. g t)))
+
+-- ---- check 2
+
+pub sized : (su : Setup) (s : State) → T (lengthsOk su s) → Sized su (s .usage .active) (s .alloc .configured) (s .usage .used) (s .monitor .counters) (s .monitor .events)
+unfolding lengthsOk
+sized su s t = search (eqb→eq, and-l, and-r) depth 9
+
+pub lengths-ok : (su : Setup) (s : State) → Sized su (s .usage .active) (s .alloc .configured) (s .usage .used) (s .monitor .counters) (s .monitor .events) → T (lengthsOk su s)
+unfolding lengthsOk
+lengths-ok su s z = search (eqb-in, and-in) depth 9
+
+pub passing : {s : State} {t : Totals} → Passes s t → Passing s
+passing {s} p = record { setup = setup-ok (s .setup) (p .ranges); lengths = lengths-ok (s .setup) s (p .sized); wellformed = p .wellformed }
+
+-- ---- the first check that fails
+
+pub fails : (b : Bool) → b ≡ false → T (not b)
+fails b e = subst (λ (x : Bool). T (not x)) (sym e) tt
+
+passes-not : (b : Bool) → T b → T (not (not b))
+passes-not b t = not-in (not b) (not-both b t)
+
+module _ (su : Setup) (s : State) where
+  pub setup-fails : T (not (setupOk su)) → first (setupChecks su s) 0 ≡ 1
+  unfolding setupChecks
+  setup-fails n = cond-yes {A = ℕ} (not (setupOk su)) 1 _ n
+
+  pub lengths-fail : T (setupOk su) → T (not (lengthsOk su s)) → first (setupChecks su s) 0 ≡ 2
+  unfolding setupChecks
+  lengths-fail t n =
+      cond-no {A = ℕ} (not (setupOk su)) 1 _ (passes-not (setupOk su) t) ∙ cond-yes {A = ℕ} (not (lengthsOk su s)) 2 0 n
+
+  pub setup-passes : T (setupOk su) → T (lengthsOk su s) → first (setupChecks su s) 0 ≡ 0
+  unfolding setupChecks
+  setup-passes t l =
+      cond-no {A = ℕ} (not (setupOk su)) 1 _ (passes-not (setupOk su) t) ∙ cond-no {A = ℕ} (not (lengthsOk su s)) 2 0 (passes-not (lengthsOk su s) l)
+
+module _ (s : State) where
+  pub check-1 : T (not (setupOk (s .setup))) → first (stateChecks s) 0 ≡ 1
+  unfolding stateChecks setupChecks
+  check-1 n = cond-yes {A = ℕ} (not (setupOk (s .setup))) 1 _ n
+
+  pub check-2 : T (setupOk (s .setup)) → T (not (lengthsOk (s .setup) s)) → first (stateChecks s) 0 ≡ 2
+  unfolding stateChecks setupChecks
+  check-2 t n =
+      cond-no {A = ℕ} (not (setupOk (s .setup))) 1 _ (passes-not (setupOk (s .setup)) t)
+      ∙ cond-yes {A = ℕ} (not (lengthsOk (s .setup) s)) 2 _ n
+
+  pub check-3 : T (setupOk (s .setup)) → T (lengthsOk (s .setup) s) → T (not (wellFormed s)) → first (stateChecks s) 0 ≡ 3
+  unfolding stateChecks setupChecks
+  check-3 t l n =
+      cond-no {A = ℕ} (not (setupOk (s .setup))) 1 _ (passes-not (setupOk (s .setup)) t)
+      ∙ cond-no {A = ℕ} (not (lengthsOk (s .setup) s)) 2 _ (passes-not (lengthsOk (s .setup) s) l)
+      ∙ cond-yes {A = ℕ} (not (wellFormed s)) 3 0 n
+
+-- ---- check 3
+
+-- the same parts in another order; the pool's test is the right one where the tables pass
+by-parts : (ok p p′ a b u k e v r c regs ctl : Bool) → T v → ok ≡ (a && b && u && k && e) → (T ok → p ≡ p′) → regs ≡ r → ctl ≡ c
+    → (ok && p && (regs && ctl)) ≡ (a && b && (u && p′) && r && (c && v && k && e))
+by-parts ok p p′ a b u k e v r c regs ctl tv q f g h =
+    same-test (ok && p && (regs && ctl)) (a && b && (u && p′) && r && (c && v && k && e))
+    (λ t. let t₀ : T ok = search (and-l, and-r) depth 6 in
+    let tt₁ : T (a && b && u && k && e) = subst T q t₀ in
+    let tp : T p′ = subst T (f t₀) (search (and-l, and-r) depth 6) in
+    let tr : T r = subst T g (search (and-l, and-r) depth 6) in
+    let tc : T c = subst T h (search (and-l, and-r) depth 6) in
+    let ta : T a = search (and-l, and-r) depth 8 in
+    let tb : T b = search (and-l, and-r) depth 8 in
+    let tu : T u = search (and-l, and-r) depth 8 in
+    let tk : T k = search (and-l, and-r) depth 8 in
+    let te : T e = search (and-l, and-r) depth 8 in
+    search and-in depth 12)
+    (λ t. let ta : T a = search (and-l, and-r) depth 8 in
+    let tb : T b = search (and-l, and-r) depth 8 in
+    let tu : T u = search (and-l, and-r) depth 8 in
+    let tk : T k = search (and-l, and-r) depth 8 in
+    let te : T e = search (and-l, and-r) depth 8 in
+    let t₀ : T ok = subst T (sym q) (search and-in depth 12) in
+    let tp : T p = subst T (sym (f t₀)) (search (and-l, and-r) depth 8) in
+    let tr : T regs = subst T (sym g) (search (and-l, and-r) depth 8) in
+    let tc : T ctl = subst T (sym h) (search (and-l, and-r) depth 8) in
+    search and-in depth 6)
+
+-- every word below 2^64 has only named bits of a bandwidth counter
+value-kept : (v : ℕ) → v < 2 ^ 64 → v ≡ kept reg.bandwidthCounter v
+value-kept v h = sym (bandwidthCounter-kept v ∙ and-mask v 64 ∙ mod-eq-of-lt h)
+
+module _ (s : State) where
+  abbrev tables : Bool
+  tables = tablesOk (s .setup) (s .usage .active) (s .alloc .configured) (s .usage .used) (s .monitor .counters) (s .monitor .events)
+
+  -- the tables, the pool, the registers and mon_ctl, put together
+  pub well-formed-is : (ok : Bool) (act left : ℕ) (regs ctl : Bool) → s .monitor .value < 2 ^ 64 → ok ≡ tables → (T ok → act ≡ total (s .usage .active))
+      → left ≡ s .setup .nbwblks - act → regs ≡ registersOk (s .setup) (s .alloc) → ctl ≡ eqb (s .monitor .ctl) (monWord (s .setup .na) (s .monitor .ctl) (statusOf (s .monitor .ctl)))
+      → (ok && leb (s .usage .pool) (left * s .setup .q) && (regs && ctl)) ≡ wellFormed s
+  unfolding tablesOk wellFormed usageOk monitorOk poolOf
+  well-formed-is ok act left regs ctl v e f l r c =
+      let su = s .setup in
+      let u = s .usage in
+      let m = s .monitor in
+      let ta = tableOk su (u .active) in
+      let tc = tableOk su (s .alloc .configured) in
+      let us = allBelow (pairs su) (λ i. leb (getD (u .used) i 0) (reserved (getD (u .active) i 0) * su .q)) in
+      let ks = allBelow (su .nm) (λ i. counterOk reg.bandwidthCounter reg.bandwidthCtr (su .w) (getD (m .counters) i 0)) in
+      let es = allBelow (su .nm) (λ i. settingOk (su .na) lastEvent (getD (m .events) i 0)) in
+      let vk = eqb (m .value) (kept reg.bandwidthCounter (m .value)) in
+      let vt : T vk = eqb-in (m .value) (kept reg.bandwidthCounter (m .value)) (value-kept (m .value) v) in
+      let same : T ok → leb (u .pool) (left * su .q) ≡ leb (u .pool) ((su .nbwblks - total (u .active)) * su .q) =
+      λ t. ap (λ (x : ℕ). leb (u .pool) (x * su .q)) (l ∙ ap (λ (x : ℕ). su .nbwblks - x) (f t)) in
+      let whole : ok ≡ (ta && tc && us && ks && es) = e in
+      by-parts ok (leb (u .pool) (left * su .q)) (leb (u .pool) ((su .nbwblks - total (u .active)) * su .q)) ta tc us ks es vk (registersOk su (s .alloc))
+      (eqb (m .ctl) (monWord (su .na) (m .ctl) (statusOf (m .ctl)))) regs ctl vt whole same r c
+
+-- ---- what a check found
+
+pub failed-of : (s : State) (r : Check) (why : Refusal) → Checked s r → r ≡ Failed why → first (stateChecks s) 0 ≡ numberOf why
+failed-of s r why h e = subst (Checked s) e h
+
+pub passed-of : (s : State) (r : Check) (t : Totals) → Checked s r → r ≡ Passed t → Passes s t
+passed-of s r t h e = subst (Checked s) e h
+
+module _ {s : State} {t : Totals} (p : Passes s t) where
+  pub active-facts : TableFacts (s .setup) (s .usage .active)
+  unfolding wellFormed
+  active-facts =
+      let w = p .wellformed in
+      table-facts (s .setup) (s .usage .active) (p .sized .active-long) (search (and-l, and-r) depth 8)
+
+  pub usage-formed : T (usageOk (s .setup) (s .usage))
+  unfolding wellFormed
+  usage-formed = let w = p .wellformed in search (and-l, and-r) depth 8

@@ -1,0 +1,39 @@
+-- The code's record, tables and answers as the model's.
+use mathlib.Core.List.{List}
+use Prim.Native.Nat.{ℕ}
+use Rattle.access.specs.Refusals.{numberOf}
+use Rattle.bandwidth_model.specs.Calls.{Answer, refused, done, value, granted}
+use Rattle.bandwidth_model.specs.Model.{State, Outcome}
+use Rattle.setup.specs.View.{setupOf}
+use Rattle.bandwidth.specs.declared.Record.{Record}
+use Rattle.bandwidth.specs.declared.Ack.{Ack}
+use Rattle.bandwidth.specs.declared.Ack.the-variants as ack
+use Rattle.bandwidth.specs.declared.Reading.{Reading}
+use Rattle.bandwidth.specs.declared.Reading.the-variants as reading
+use Rattle.bandwidth.specs.declared.Granting.{Granting}
+use Rattle.bandwidth.specs.declared.Granting.the-variants as granting
+
+-- the record with the tables in force, configured, used, counters and counter settings
+abbrev pub state : Record → List ℕ → List ℕ → List ℕ → List ℕ → List ℕ → State
+state r active configured used counters events = record {
+  setup = setupOf (r .setup);
+  alloc = record { ctl = r .«alloc_ctl»; bw = r .«bw_alloc»; configured = configured };
+  usage = record { active = active; used = used; pool = r .pool };
+  monitor = record { ctl = r .«mon_ctl»; value = r .«mon_ctr_val»; counters = counters; events = events };
+}
+
+abbrev pub outcome : Answer → State → Outcome
+outcome a s = record { answer = a; state = s }
+
+-- document 01's number and values for each case of an answer
+abbrev pub ackOf : Ack → Answer
+ackOf ack.Done = done
+ackOf (ack.Refused r) = refused (numberOf r)
+
+abbrev pub readingOf : Reading → Answer
+readingOf (reading.Value v) = value v
+readingOf (reading.Refused r) = refused (numberOf r)
+
+abbrev pub grantingOf : Granting → Answer
+grantingOf (granting.Bytes n) = granted n
+grantingOf (granting.Refused r) = refused (numberOf r)

@@ -1,0 +1,188 @@
+// Reads and writes of the registers.
+use crate::Ack;
+use crate::Acked;
+use crate::Read;
+use crate::Reading;
+use crate::Record;
+use crate::check::Check;
+use crate::check::Totals;
+use access::Verdict;
+use access::part;
+use access::read_verdict;
+use access::write_verdict;
+use fields::BandwidthCapabilities;
+use monitor::Registers;
+use monitor::write_mon;
+use settings::bw_word;
+use settings::write_alloc;
+ghost use mathlib.Core.Path.{_≡_};
+ghost use Rattle.bandwidth_model.specs.Facts.{Ranges};
+ghost use Rattle.bandwidth_model.specs.Calls.{read, write};
+ghost use Rattle.bandwidth_model.specs.Model.{capabilities, register, writeAt, step};
+ghost use Rattle.setup.specs.View.{setupOf};
+ghost use Rattle.bandwidth.specs.View.{state, outcome, ackOf, readingOf};
+ghost use Rattle.bandwidth.specs.Checked.{Passes};
+
+// The highest EVT_ID that the bandwidth controller knows.
+const LAST_EVENT: u64 = 3;
+
+impl Record {
+    // What capabilities reads.
+    fn capabilities(self) -> u64
+        requires { ⌜ Ranges (setupOf (self .setup)) ⌝ }
+        ensures { λ r. ⌜ r ≡ capabilities (setupOf (self .setup)) ⌝ }
+    {
+        BandwidthCapabilities {
+            ver: 1,
+            nbwblks: self.setup.nbwblks,
+            mrbwb: self.setup.mrbwb,
+        }.pack()
+    }
+
+    // The register that an offset lies in.
+    fn register(
+        self,
+        active: &[u32],
+        configured: &[u32],
+        used: &[u32],
+        counters: &[u64],
+        events: &[u16],
+        n: u64,
+    ) -> u64
+        requires { ⌜ Ranges (setupOf (self .setup)) ⌝ }
+        ensures { λ r. ⌜ r ≡ register (state self (now (active .entry)) (now (configured .entry)) (now (used .entry)) (now (counters .entry)) (now (events .entry))) n ⌝ }
+    {
+        match n {
+            0 => self.capabilities(),
+            1 => self.mon_ctl,
+            2 => self.mon_ctr_val,
+            3 => self.alloc_ctl,
+            _ => self.bw_alloc,
+        }
+    }
+
+    pub fn read(
+        self,
+        active: &[u32],
+        configured: &[u32],
+        used: &[u32],
+        counters: &[u64],
+        events: &[u16],
+        size: u64,
+        offset: u64,
+    ) -> Read
+        ensures { λ r. ⌜ outcome (readingOf (r .reading)) (state (r .«record») (now (active .entry)) (now (configured .entry)) (now (used .entry)) (now (counters .entry)) (now (events .entry)))
+            ≡ step (state self (now (active .entry)) (now (configured .entry)) (now (used .entry)) (now (counters .entry)) (now (events .entry))) (read size offset) ⌝ }
+    {
+        match self.check(active, configured, used, counters, events) {
+            Check::Failed(why) => Read {
+                record: self,
+                reading: Reading::Refused(why),
+            },
+            Check::Passed(_) => match read_verdict(size, offset) {
+                Verdict::Failed(why) => Read {
+                    record: self,
+                    reading: Reading::Refused(why),
+                },
+                Verdict::Passed => {
+                    let word = self.register(
+                        active,
+                        configured,
+                        used,
+                        counters,
+                        events,
+                        offset / 8,
+                    );
+                    Read {
+                        record: self,
+                        reading: Reading::Value(part(size, offset, word)),
+                    }
+                }
+            },
+        }
+    }
+
+    // Stores what a write reaches, and performs its operation.
+    fn store(
+        mut self,
+        active: &[u32],
+        configured: &mut [u32],
+        used: &[u32],
+        counters: &mut [u64],
+        events: &mut [u16],
+        totals: Totals,
+        offset: u64,
+        value: u64,
+    ) -> Record
+        requires { ⌜ Passes (state self (now active) (now configured) (now used) (now counters) (now events)) totals ⌝ }
+        ensures { λ r. ⌜ state r (now (active .entry)) (now (configured .exit)) (now (used .entry)) (now (counters .exit)) (now (events .exit))
+            ≡ writeAt (state self (now (active .entry)) (now (configured .entry)) (now (used .entry)) (now (counters .entry)) (now (events .entry))) offset value ⌝ }
+    {
+        let setup = self.setup;
+        match offset {
+            24 => {
+                let done = write_alloc(setup, configured, totals.configured, self.bw_alloc, value);
+                self.alloc_ctl = done.ctl;
+                self.bw_alloc = done.bw;
+            }
+            32 => {
+                self.bw_alloc = bw_word(value);
+            }
+            8 => {
+                let old = Registers {
+                    ctl: self.mon_ctl,
+                    value: self.mon_ctr_val,
+                };
+                let done = write_mon(setup.na, setup.nm, LAST_EVENT, old, counters, events, value);
+                self.mon_ctl = done.ctl;
+                self.mon_ctr_val = done.value;
+            }
+            _ => {}
+        }
+        self
+    }
+
+    pub fn write(
+        mut self,
+        active: &[u32],
+        configured: &mut [u32],
+        used: &[u32],
+        counters: &mut [u64],
+        events: &mut [u16],
+        size: u64,
+        offset: u64,
+        value: u64,
+    ) -> Acked
+        ensures { λ r. ⌜ outcome (ackOf (r .ack)) (state (r .«record») (now (active .entry)) (now (configured .exit)) (now (used .entry)) (now (counters .exit)) (now (events .exit)))
+            ≡ step (state self (now (active .entry)) (now (configured .entry)) (now (used .entry)) (now (counters .entry)) (now (events .entry))) (write size offset value) ⌝ }
+    {
+        match self.check(active, configured, used, counters, events) {
+            Check::Failed(why) => Acked {
+                record: self,
+                ack: Ack::Refused(why),
+            },
+            Check::Passed(totals) => match write_verdict(size, offset, value) {
+                Verdict::Failed(why) => Acked {
+                    record: self,
+                    ack: Ack::Refused(why),
+                },
+                Verdict::Passed => {
+                    let after = self.store(
+                        active,
+                        configured,
+                        used,
+                        counters,
+                        events,
+                        totals,
+                        offset,
+                        value,
+                    );
+                    Acked {
+                        record: after,
+                        ack: Ack::Done,
+                    }
+                }
+            },
+        }
+    }
+}

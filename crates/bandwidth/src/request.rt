@@ -1,0 +1,106 @@
+// Requests.
+use crate::Granting;
+use crate::Record;
+use crate::Served;
+use crate::check::Check;
+use crate::check::Totals;
+use access::Refusal;
+use grants::grant_of;
+use grants::holder_of;
+use grants::known_at;
+use grants::spend;
+use monitor::count_bytes;
+ghost use mathlib.Core.Path.{_≡_};
+ghost use Prim.Native.Nat.{_<_};
+ghost use Rattle.bandwidth_model.specs.Calls.{request};
+ghost use Rattle.bandwidth_model.specs.Model.{requested, step};
+ghost use Rattle.bandwidth.specs.View.{state, outcome, grantingOf};
+ghost use Rattle.bandwidth.specs.Checked.{Passes};
+
+impl Record {
+    // Leads a request to its holder, grants it bytes and counts them.
+    fn serve(
+        mut self,
+        active: &[u32],
+        configured: &[u32],
+        used: &mut [u32],
+        counters: &mut [u64],
+        events: &[u16],
+        totals: Totals,
+        rcid: u64,
+        mcid: u64,
+        at: u64,
+        kind: u64,
+        bytes: u32,
+    ) -> Served
+        requires { ⌜ Passes (state self (now active) (now configured) (now used) (now counters) (now events)) totals × (rcid < self .setup .nr) ⌝ }
+        ensures { λ r. ⌜ outcome (grantingOf (r .granting)) (state (r .«record») (now (active .entry)) (now (configured .entry)) (now (used .exit)) (now (counters .exit)) (now (events .entry)))
+            ≡ requested (state self (now (active .entry)) (now (configured .entry)) (now (used .entry)) (now (counters .entry)) (now (events .entry))) rcid mcid at kind bytes ⌝ }
+    {
+        let setup = self.setup;
+        let at = known_at(setup.na, at);
+        let holder = holder_of(setup, active, rcid, at);
+        let grant = grant_of(
+            setup,
+            active,
+            used,
+            self.pool,
+            totals.active,
+            holder,
+            bytes as u64,
+        );
+        self.pool = spend(used, self.pool, holder, grant);
+        let sum = grant.reservation + grant.pool;
+        count_bytes(setup.w, counters, events, mcid, at, kind, sum);
+        Served {
+            record: self,
+            granting: Granting::Bytes(sum),
+        }
+    }
+
+    pub fn request(
+        mut self,
+        active: &[u32],
+        configured: &[u32],
+        used: &mut [u32],
+        counters: &mut [u64],
+        events: &[u16],
+        rcid: u64,
+        mcid: u64,
+        at: u64,
+        kind: u64,
+        bytes: u32,
+    ) -> Served
+        ensures { λ r. ⌜ outcome (grantingOf (r .granting)) (state (r .«record») (now (active .entry)) (now (configured .entry)) (now (used .exit)) (now (counters .exit)) (now (events .entry)))
+            ≡ step (state self (now (active .entry)) (now (configured .entry)) (now (used .entry)) (now (counters .entry)) (now (events .entry))) (request rcid mcid at kind bytes) ⌝ }
+    {
+        match self.check(active, configured, used, counters, events) {
+            Check::Failed(why) => Served {
+                record: self,
+                granting: Granting::Refused(why),
+            },
+            Check::Passed(totals) => {
+                let setup = self.setup;
+                if (setup.nr <= rcid) | (setup.nm <= mcid) {
+                    return Served {
+                        record: self,
+                        granting: Granting::Refused(Refusal::Identifier),
+                    };
+                }
+                self.serve(
+                    active,
+                    configured,
+                    used,
+                    counters,
+                    events,
+                    totals,
+                    rcid,
+                    mcid,
+                    at,
+                    kind,
+                    bytes,
+                )
+            }
+        }
+    }
+}

@@ -1,0 +1,108 @@
+// Resets.
+use crate::Ack;
+use crate::Acked;
+use crate::Record;
+use access::Refusal;
+use fields::BwAlloc;
+use setup::Setup;
+use tables::copy32;
+use tables::fill16;
+use tables::fill32;
+use tables::fill64;
+use tables::put32;
+ghost use mathlib.Core.Path.{_≡_};
+ghost use lib.ListN.{length};
+ghost use Rattle.bandwidth_model.specs.Facts.{Ranges, Sized};
+ghost use Rattle.bandwidth_model.specs.Calls.{reset};
+ghost use Rattle.bandwidth_model.specs.Rules.{pairs, resetTable};
+ghost use Rattle.bandwidth_model.specs.Model.{step};
+ghost use Rattle.setup.specs.View.{setupOf};
+ghost use Rattle.bandwidth.specs.View.{state, outcome, ackOf};
+ghost use Rattle.bandwidth.specs.Checked.{Fresh};
+
+// The Mweight that RCID 0 has after a reset.
+const RESET_WEIGHT: u64 = 1;
+
+// The settings of a reset.
+fn reset_table(setup: Setup, table: &mut [u32])
+    requires { ⌜ Ranges (setupOf setup) × (length (now table) ≡ pairs (setupOf setup)) ⌝ }
+    ensures { λ r. ⌜ now (table .exit) ≡ resetTable (setupOf setup) ⌝ }
+{
+    let holder = BwAlloc {
+        rbwb: setup.mrbwb,
+        mweight: RESET_WEIGHT,
+        sharedat: 0,
+        useshared: 0,
+    }.pack();
+    let sharer = BwAlloc {
+        rbwb: 0,
+        mweight: 0,
+        sharedat: 0,
+        useshared: 1,
+    }.pack();
+    fill32(table, 0);
+    let na = setup.na as usize;
+    fill32(&mut table[..na], sharer as u32);
+    put32(table, 0, holder as u32);
+}
+
+// All tables of a reset.
+fn reset_tables(
+    setup: Setup,
+    active: &mut [u32],
+    configured: &mut [u32],
+    used: &mut [u32],
+    counters: &mut [u64],
+    events: &mut [u16],
+)
+    requires { ⌜ Ranges (setupOf setup) × Sized (setupOf setup) (now active) (now configured) (now used) (now counters) (now events) ⌝ }
+    ensures { λ r. ⌜ Fresh (setupOf setup) (now (active .exit)) (now (configured .exit)) (now (used .exit)) (now (counters .exit)) (now (events .exit)) ⌝ }
+{
+    reset_table(setup, configured);
+    copy32(active, configured);
+    fill32(used, 0);
+    fill64(counters, 0);
+    fill16(events, 0);
+}
+
+impl Record {
+    pub fn reset(
+        mut self,
+        active: &mut [u32],
+        configured: &mut [u32],
+        used: &mut [u32],
+        counters: &mut [u64],
+        events: &mut [u16],
+        setup: Setup,
+    ) -> Acked
+        ensures { λ r. ⌜ outcome (ackOf (r .ack)) (state (r .«record») (now (active .exit)) (now (configured .exit)) (now (used .exit)) (now (counters .exit)) (now (events .exit)))
+            ≡ step (state self (now (active .entry)) (now (configured .entry)) (now (used .entry)) (now (counters .entry)) (now (events .entry))) (reset (setupOf setup)) ⌝ }
+    {
+        if setup.in_range() {
+            if self.lengths_ok(setup, active, configured, used, counters, events) {
+                reset_tables(setup, active, configured, used, counters, events);
+                Acked {
+                    record: Record {
+                        setup,
+                        mon_ctl: 0,
+                        mon_ctr_val: 0,
+                        alloc_ctl: 0,
+                        bw_alloc: 0,
+                        pool: 0,
+                    },
+                    ack: Ack::Done,
+                }
+            } else {
+                Acked {
+                    record: self,
+                    ack: Ack::Refused(Refusal::Length),
+                }
+            }
+        } else {
+            Acked {
+                record: self,
+                ack: Ack::Refused(Refusal::Setup),
+            }
+        }
+    }
+}

@@ -1,0 +1,136 @@
+// Requests: the holder that a request is led to, what it is granted, and what is used afterwards.
+use fields::field;
+use settings::is_holder;
+use settings::is_sharer;
+use settings::reserved_blocks;
+use setup::Setup;
+use tables::least;
+use tables::less;
+use tables::pick;
+use tables::put32;
+use tables::word32;
+ghost use mathlib.Core.Path.{_≡_};
+ghost use mathlib.Core.Bool.{cond};
+ghost use mathlib.Core.List.{List};
+ghost use Prim.Native.Nat.{ℕ, _-_, _*_, _<_, _≤_, min};
+ghost use lib.Dec.{eqb};
+ghost use Rattle.tables.specs.Below.{Small};
+ghost use Rattle.access.specs.Pairs.{pair, knownAt};
+ghost use Rattle.bandwidth_model.specs.Rules.{reserved, weightOf, sharedAtOf, holderOf};
+ghost use Rattle.bandwidth_model.specs.Facts.{Ranges};
+ghost use Rattle.bandwidth_model.specs.Model.{spend};
+ghost use Rattle.setup.specs.View.{setupOf};
+ghost use Rattle.grants.specs.View.{usage, holderFrom, grantFrom};
+ghost use Rattle.grants.specs.Grants.{PairIn, TotalIs, Granted, Fits};
+
+// The place of the holder that a request is led to, if there is one.
+pub enum Holder {
+    Nobody,
+    Held(u64),
+}
+
+// The bytes granted from the holder's reservation and from the pool.
+pub struct Grant {
+    pub reservation: u64,
+    pub pool: u64,
+}
+
+// The AT that a request's AT counts as.
+pub fn known_at(na: u64, at: u64) -> u64
+    ensures { λ r. ⌜ r ≡ knownAt na at ⌝ }
+{
+    pick(at < na, at, 0)
+}
+
+// The AT that a sharer shares.
+fn shared_at(word: u64) -> u64
+    ensures { λ r. ⌜ Small (sharedAtOf word) 7 r ⌝ }
+{
+    field(word, 28, 3)
+}
+
+// The place of a pair in a settings table.
+fn place(na: u64, rcid: u64, at: u64) -> u64
+    requires { ⌜ (na ≤ 8) × ((rcid < 256) × (at ≤ 7)) ⌝ }
+    ensures { λ r. ⌜ r ≡ pair na rcid at ⌝ }
+{
+    rcid * na + at
+}
+
+// The holder that a pair is led to: itself, or the one that it shares.
+pub fn holder_of(setup: Setup, active: &[u32], rcid: u64, at: u64) -> Holder
+    requires { ⌜ PairIn (setupOf setup) rcid at ⌝ }
+    ensures { λ r. ⌜ holderFrom r ≡ holderOf (setupOf setup) (now (active .entry)) rcid at ⌝ }
+{
+    let own = place(setup.na, rcid, at);
+    let word = word32(active, own as usize) as u64;
+    let other = place(setup.na, rcid, shared_at(word));
+    if is_holder(word) {
+        return Holder::Held(own);
+    }
+    if is_sharer(word) {
+        return Holder::Held(other);
+    }
+    Holder::Nobody
+}
+
+// What is left of the reservation of a holder with this word, up to `bytes`.
+fn from_reservation(setup: Setup, word: u64, used: u64, bytes: u64) -> u64
+    requires { ⌜ Ranges (setupOf setup) ⌝ }
+    ensures { λ r. ⌜ Small (min bytes (reserved word * setup .q - used)) bytes r ⌝ }
+{
+    least(bytes, less(reserved_blocks(word) * setup.q, used))
+}
+
+// What the pool has left for a holder with this word, up to `rest`.
+fn from_pool(setup: Setup, word: u64, reserved: u64, pool: u64, rest: u64) -> u64
+    requires { ⌜ Ranges (setupOf setup) ⌝ }
+    ensures { λ r. ⌜ Small (cond (eqb (weightOf word) 0) 0 (min rest ((setup .nbwblks - reserved) * setup .q - pool))) rest r ⌝ }
+{
+    let size = less(setup.nbwblks, reserved) * setup.q;
+    pick(field(word, 20, 8) == 0, 0, least(rest, less(size, pool)))
+}
+
+// What a holder is granted of `bytes`: `reserved` is what the active table reserves, `pool` what the pool gave already.
+pub fn grant_of(
+    setup: Setup,
+    active: &[u32],
+    used: &[u32],
+    pool: u64,
+    reserved: u64,
+    holder: Holder,
+    bytes: u64,
+) -> Grant
+    requires { ⌜ TotalIs (setupOf setup) (now active) reserved ⌝ }
+    ensures { λ r. ⌜ Granted (setupOf setup) (usage (now (active .entry)) (now (used .entry)) pool) (holderFrom holder) bytes (grantFrom r) ⌝ }
+{
+    match holder {
+        Holder::Nobody => Grant {
+            reservation: 0,
+            pool: 0,
+        },
+        Holder::Held(i) => {
+            let word = word32(active, i as usize) as u64;
+            let own = from_reservation(setup, word, word32(used, i as usize) as u64, bytes);
+            Grant {
+                reservation: own,
+                pool: from_pool(setup, word, reserved, pool, bytes - own),
+            }
+        }
+    }
+}
+
+// Adds a grant to the used bytes, and returns what the pool gave with it.
+pub fn spend(used: &mut [u32], pool: u64, holder: Holder, grant: Grant) -> u64
+    requires { ⌜ Fits (now used) pool (holderFrom holder) (grantFrom grant) ⌝ }
+    ensures { λ r. ⌜ ((active : List ℕ) → usage active (now (used .exit)) r ≡ spend (usage active (now (used .entry)) pool) (holderFrom holder) (grantFrom grant)) ⌝ }
+{
+    match holder {
+        Holder::Nobody => pool,
+        Holder::Held(i) => {
+            let old = word32(used, i as usize) as u64;
+            put32(used, i as usize, (old + grant.reservation) as u32);
+            pool + grant.pool
+        }
+    }
+}

@@ -1,0 +1,187 @@
+-- The bits of a number one by one, and of numbers gathered by `|`.
+use mathlib.Core.Path.{_≡_, refl, sym, ap, subst, _∙_}
+use mathlib.Core.Bool.{Bool, true, false, cond}
+use mathlib.Core.Logic.{_⊎_, inl, inr, ⊎-elim}
+use Prim.Native.Nat.{ℕ, zero, suc, _+_, _-_, _/_, _%_, _^_, _≤_, _<_, max}
+use native.Mathlib.Nat.{mod-lt, div-eq-of-lt, div-div-eq-div-mul, div-one, pow-suc, pow-succ', one-mul, le-trans}
+use native.Mathlib.Numerals.{add-one}
+use native.Mathlib.Omega.{arith}
+use borrow.Author.Count.{below-more}
+use lib.Dec.{T, eqb, eqb·suc-zero, eqb→eq, ltb, ltb→lt, nltb→le}
+use lib.Bits.{bitOr, or-add-and, and-le-l, and-le-r, or-step, or-shr, or-zero-l}
+use lib.Pow.{pow-lt, pow-mono, pow-pos, pow-add, shl-shr, shr-shr}
+use Rattle.fields.proofs.Laws.{field-mod}
+use Rattle.tables.specs.Below.{allBelow}
+use Rattle.tables.proofs.Tests.{cases, is-true, eqb-in, neqb}
+use Rattle.tables.proofs.Laws.{all-at, all-in}
+use Rattle.wellformed.specs.Bits.{gather, lacking}
+
+-- two tests that imply each other
+pub same-test : (a b : Bool) → (T a → T b) → (T b → T a) → a ≡ b
+same-test true b f g = sym (is-true b (f tt))
+same-test false true f g = absurd (g tt)
+same-test false false f g = refl
+
+-- ---- unions
+
+pub or-zero : (a b : ℕ) → bitOr a b ≡ 0 → (a ≡ 0) × (b ≡ 0)
+or-zero a b h =
+    (omega (arith, or-add-and a b, and-le-l a b, and-le-r a b), omega (arith, or-add-and a b, and-le-l a b, and-le-r a b))
+
+pub or-none : (a b : ℕ) → a ≡ 0 → b ≡ 0 → bitOr a b ≡ 0
+or-none a b h k = omega (arith, or-add-and a b)
+
+pub or-ge-l : (a b : ℕ) → a ≤ bitOr a b
+or-ge-l a b = omega (arith, or-add-and a b, and-le-r a b)
+
+pub or-ge-r : (a b : ℕ) → b ≤ bitOr a b
+or-ge-r a b = omega (arith, or-add-and a b, and-le-l a b)
+
+-- ---- one bit
+
+-- bit k of n is 1
+abbrev pub Has : ℕ → ℕ → Type 0
+Has k n = n / 2 ^ k % 2 ≡ 1
+
+or-bit : (k a b : ℕ) → bitOr a b / 2 ^ k % 2 ≡ max (a / 2 ^ k % 2) (b / 2 ^ k % 2)
+or-bit k a b = ap (λ (n : ℕ). n % 2) (or-shr a b k) ∙ last (a / 2 ^ k) (b / 2 ^ k)
+  where
+    last : (x y : ℕ) → bitOr x y % 2 ≡ max (x % 2) (y % 2)
+    last x y = omega (arith, or-step x y)
+
+pub has-left : (k a b : ℕ) → Has k a → Has k (bitOr a b)
+has-left k a b h = omega (arith, or-bit k a b)
+
+pub has-right : (k a b : ℕ) → Has k b → Has k (bitOr a b)
+has-right k a b h = omega (arith, or-bit k a b)
+
+pub has-or : (k a b : ℕ) → Has k (bitOr a b) → Has k a ⊎ Has k b
+has-or k a b h =
+    cases (λ c. Has k a ⊎ Has k b) (eqb (a / 2 ^ k % 2) 1) (λ t. inl (eqb→eq (a / 2 ^ k % 2) 1 t))
+    (λ t. let d = neqb (a / 2 ^ k % 2) 1 t in inr (omega (arith, or-bit k a b)))
+
+-- a number below 2^k has no bit k
+pub has-not : (k n : ℕ) → n < 2 ^ k → Has k n → ⊥
+has-not k n l h = let e : n / 2 ^ k ≡ 0 = div-eq-of-lt l in omega arith
+
+pub has-own : (k : ℕ) → Has k (2 ^ k)
+has-own k = ap (λ (x : ℕ). x % 2) (ap (λ (x : ℕ). x / 2 ^ k) (sym (one-mul (2 ^ k))) ∙ shl-shr 1 k)
+
+-- a power of 2 has one bit
+pub has-pow : (k j : ℕ) → Has k (2 ^ j) → k ≡ j
+has-pow k j h =
+    cases (λ c. k ≡ j) (ltb k j) (λ t. absurd (above (j - suc k) (ltb→lt k j t)))
+    (λ t. cases (λ c. k ≡ j) (ltb j k) (λ u. absurd (has-not k (2 ^ j) (pow-lt (ltb→lt j k u)) h))
+    (λ u. omega (arith, nltb→le k j t, nltb→le j k u)))
+  where
+    above : (d : ℕ) → k < j → ⊥
+    above d l =
+        let d = j - suc k in
+        let e : suc d + k ≡ j = omega arith in
+        let q : 2 ^ j / 2 ^ k ≡ 2 ^ suc d = ap (λ (x : ℕ). 2 ^ x / 2 ^ k) (sym e) ∙ ap (λ (x : ℕ). x / 2 ^ k) (pow-add 2 (suc d) k) ∙ shl-shr (2 ^ suc d) k in
+        omega (arith, pow-suc 2 d)
+
+-- ---- all bits of x are bits of y
+
+covered : (n x y : ℕ) → x ≤ n → ((k : ℕ) → Has k x → Has k y) → bitOr x y ≡ y
+covered zero x y l f = let e : x ≡ 0 = omega arith in rw e (or-zero-l y)
+covered (suc n) x y l f =
+    let half : bitOr (x / 2) (y / 2) ≡ y / 2 = covered n (x / 2) (y / 2) (omega arith) (λ k h. down y k ∙ f (suc k) (sym (down x k) ∙ h)) in
+    let low = last (λ e. sym (first y) ∙ f 0 (first x ∙ e)) in
+    omega (arith, or-step x y)
+  where
+    down : (z k : ℕ) → z / 2 / 2 ^ k % 2 ≡ z / 2 ^ suc k % 2
+    down z k = ap (λ (v : ℕ). v % 2) (div-div-eq-div-mul z 2 (2 ^ k) ∙ ap (λ (v : ℕ). z / v) (sym (pow-succ' 2 k)))
+
+    first : (z : ℕ) → z / 2 ^ 0 % 2 ≡ z % 2
+    first z = ap (λ (v : ℕ). v % 2) (div-one z)
+
+    last : (x % 2 ≡ 1 → y % 2 ≡ 1) → max (x % 2) (y % 2) ≡ y % 2
+    last g =
+        cases (λ c. max (x % 2) (y % 2) ≡ y % 2) (eqb (x % 2) 1) (λ t. omega (arith, g (eqb→eq (x % 2) 1 t)))
+        (λ t. let d = neqb (x % 2) 1 t in omega arith)
+
+-- ---- what is gathered
+
+pub gather-none : (f : ℕ → ℕ) → gather 0 f ≡ 0
+unfolding gather
+gather-none f = refl
+
+pub gather-next : (n : ℕ) (f : ℕ → ℕ) → gather (n + 1) f ≡ bitOr (gather n f) (f n)
+unfolding gather
+gather-next n f = rw add-one
+
+-- nothing is gathered where each part is 0
+pub gather-zero : (n : ℕ) (f : ℕ → ℕ) → gather n f ≡ 0 → (i : ℕ) → i < n → f i ≡ 0
+unfolding gather
+gather-zero zero f h i l = absurd (omega arith)
+gather-zero (suc n) f h i l =
+    let z = or-zero (gather n f) (f n) h in
+    below-more (λ k. f k ≡ 0) n (gather-zero n f (z .0)) (z .1) i (omega arith)
+
+pub zero-gather : (n : ℕ) (f : ℕ → ℕ) → ((i : ℕ) → i < n → f i ≡ 0) → gather n f ≡ 0
+unfolding gather
+zero-gather zero f h = refl
+zero-gather (suc n) f h = or-none (gather n f) (f n) (zero-gather n f (λ i l. h i (omega arith))) (h n (omega arith))
+
+-- a test of each index, by what is gathered
+pub none-gathered : (n : ℕ) (f : ℕ → ℕ) (p : ℕ → Bool) → ((i : ℕ) → i < n → eqb (f i) 0 ≡ p i) → eqb (gather n f) 0 ≡ allBelow n p
+none-gathered n f p h =
+    same-test (eqb (gather n f) 0) (allBelow n p)
+    (λ t. all-in n p (λ i l. subst T (h i l) (eqb-in (f i) 0 (gather-zero n f (eqb→eq (gather n f) 0 t) i l))))
+    (λ t. eqb-in (gather n f) 0 (zero-gather n f (λ i l. eqb→eq (f i) 0 (subst T (sym (h i l)) (all-at n p t i l)))))
+
+-- 0 where p holds of the index, and else a number that is not
+pub none-bad : (n k : ℕ) (p : ℕ → Bool) → eqb (gather n (λ i. cond (p i) 0 (suc k))) 0 ≡ allBelow n p
+none-bad n k p = none-gathered n (λ i. cond (p i) 0 (suc k)) p (λ i l. one (p i))
+  where
+    one : (b : Bool) → eqb (cond b 0 (suc k)) 0 ≡ b
+    one true = refl
+    one false = eqb·suc-zero k
+
+pub gather-has : (n : ℕ) (f : ℕ → ℕ) (k i : ℕ) → i < n → Has k (f i) → Has k (gather n f)
+unfolding gather
+gather-has zero f k i l = absurd (omega arith)
+gather-has (suc n) f k i l =
+    below-more (λ j. Has k (f j) → Has k (bitOr (gather n f) (f n))) n (λ j b h. has-left k (gather n f) (f n) (gather-has n f k j b h))
+    (has-right k (gather n f) (f n)) i (omega arith)
+
+-- a part that has bit k
+pub record Found (n : ℕ) (f : ℕ → ℕ) (k : ℕ) : Type 0 where
+  pub at : ℕ
+  pub below : at < n
+  pub has : Has k (f at)
+
+pub has-gather : (n : ℕ) (f : ℕ → ℕ) (k : ℕ) → Has k (gather n f) → Found n f k
+unfolding gather
+has-gather zero f k h = absurd (has-not k 0 (pow-pos k) h)
+has-gather (suc n) f k h =
+    ⊎-elim (λ (p : Has k (gather n f)). let r = has-gather n f k p in record { at = r .at; below = omega arith; has = r .has })
+    (λ (p : Has k (f n)). record { at = n; below = omega arith; has = p })
+    (has-or k (gather n f) (f n) h)
+
+-- ---- nothing is lacking exactly where each of the bits 15:8 is a bit from 16 on too
+
+shifted : (m j k : ℕ) → m / 2 ^ j / 2 ^ k % 2 ≡ m / 2 ^ (j + k) % 2
+shifted m j k = ap (λ (x : ℕ). x % 2) (shr-shr m j k)
+
+pub held : (m : ℕ) → lacking m ≡ 0 → (s : ℕ) → s < 8 → Has (8 + s) m → Has (16 + s) m
+unfolding lacking
+held m z s l h =
+    let x = m / 2 ^ 8 % 256 in
+    let y = m / 2 ^ 16 in
+    let e : bitOr x y ≡ y = omega (arith, or-ge-r x y) in
+    let hx : Has s x = field-mod (m / 2 ^ 8) s 1 8 (omega arith) ∙ shifted m 8 s ∙ h in
+    sym (shifted m 16 s) ∙ ap (λ (v : ℕ). v / 2 ^ s % 2) (sym e) ∙ has-left s x y hx
+
+pub lacks-none : (m : ℕ) → ((s : ℕ) → s < 8 → Has (8 + s) m → Has (16 + s) m) → lacking m ≡ 0
+unfolding lacking
+lacks-none m f =
+    let x = m / 2 ^ 8 % 256 in
+    omega (arith, covered x x (m / 2 ^ 16) (omega arith) goes)
+  where
+    goes : (k : ℕ) → Has k (m / 2 ^ 8 % 256) → Has k (m / 2 ^ 16)
+    goes k h =
+        cases (λ c. Has k (m / 2 ^ 16)) (ltb k 8)
+        (λ t. let l = ltb→lt k 8 t in shifted m 16 k ∙ f k l (sym (shifted m 8 k) ∙ sym (field-mod (m / 2 ^ 8) k 1 8 (omega arith)) ∙ h))
+        (λ t. absurd (has-not k (m / 2 ^ 8 % 256) (le-trans {m = 256} (mod-lt (m / 2 ^ 8) (omega arith)) (pow-mono {i = 8} {j = k} (nltb→le k 8 t))) h))

@@ -1,0 +1,7 @@
+-- The laws that the proofs cite.
+pub mod Bits
+pub mod Forms
+pub mod Marks
+pub mod Passes
+pub mod Tables
+pub mod Monitors

@@ -1,0 +1,178 @@
+-- What the passes over a settings table say of it, both ways.
+use mathlib.Core.Path.{_≡_, refl, sym, ap, subst, _∙_}
+use mathlib.Core.Bool.{Bool, true, false, _&&_}
+use mathlib.Core.List.{List}
+use Prim.Native.Nat.{ℕ, _+_, _*_, _/_, _%_, _<_}
+use native.Mathlib.Nat.{le-trans, le-of-eq}
+use native.Mathlib.Omega.{arith}
+use lib.Dec.{T, eqb, eqb→eq, leb, leb→le, le→leb}
+use lib.ListN.{length, getD}
+use Rattle.fields.specs.Registers as reg
+use Rattle.tables.specs.Below.{sumBelow, sumOf, allBelow}
+use Rattle.tables.proofs.Tests.{and-l, and-r, and-in, eqb-in}
+use Rattle.tables.proofs.Laws.{sum-same, all-same}
+use Rattle.access.specs.Pairs.{pair, wordAt}
+use Rattle.access.proofs.Pairs.{pair-inside, pair-of}
+use Rattle.monitor.specs.Monitor.{counterOk, settingOk}
+use Rattle.monitor.specs.Bytes.{lastEvent}
+use Rattle.bandwidth_model.specs.Rules.{Setup, pairs, rbwbOf, sharedAtOf, useSharedOf, isHolder, reserved, total}
+use Rattle.bandwidth_model.specs.Model.{tableOk}
+use Rattle.bandwidth_model.specs.Facts.{Sized}
+use Rattle.bandwidth_model.proofs.Words.{shared-0, blocks-0, shared-1, not-0, stored-fields-1, holder-in, holder-shared, not-holder-0}
+use Rattle.bandwidth_model.proofs.Settings.{View, unset, holds, follows, TableFacts, table-ok, table-facts}
+use Rattle.wellformed.specs.Bits.{gather, formAt, blocksAt, markAt, rowAt, overAt, Looked}
+use Rattle.wellformed.specs.Tables.{tablesOk}
+use Rattle.wellformed.proofs.Bits.{same-test, gather-zero, zero-gather, none-bad}
+use Rattle.wellformed.proofs.Forms as forms
+use Rattle.wellformed.proofs.Forms.{Form, low-blocks, formed, form-of, form-reserved}
+use Rattle.wellformed.proofs.Marks.{Led, row-held, held-row}
+
+-- ---- one word
+
+form-holder : {w : ℕ} → Form w → (rbwbOf w ≡ 0 → ⊥) → T (isHolder w)
+form-holder (forms.unset e) d = absurd (d (ap rbwbOf e ∙ blocks-0))
+form-holder {w} (forms.holder s u p) d = holder-in w u p
+form-holder (forms.sharer s u n) d = absurd (d n)
+
+module _ {su : Setup} {t : List ℕ} {rcid at w : ℕ} where
+  view-form : View su t rcid at w → Form w
+  view-form (unset z) = forms.unset z
+  view-form (holds s u p) = forms.holder s u p
+  view-form (follows s d o k h) = forms.sharer s (shared-1 w d) (ap rbwbOf s ∙ stored-fields-1 w d .blocks-is)
+
+  holder-blocks : View su t rcid at w → T (isHolder w) → rbwbOf w ≡ 0 → ⊥
+  holder-blocks (unset z) h e = not-holder-0 (rw z at h)
+  holder-blocks (holds s u p) h e = omega arith
+  holder-blocks (follows s d o k g) h e = d (holder-shared w h)
+
+-- ---- a whole table
+
+module _ (su : Setup) (t : List ℕ) (long : length t ≡ pairs su) where
+  words-form : TableFacts su t → (i : ℕ) → i < pairs su → Form (getD t i 0)
+  unfolding pairs wordAt
+  words-form f i l =
+      let p = pair-of (su .nr) (su .na) i l in
+      subst (λ (k : ℕ). Form (getD t k 0)) (sym (p .is)) (view-form (f .words (i / su .na) (i % su .na) (p .rcid-low) (p .at-low)))
+
+  -- in a well-formed table a word reserves its Rbwb
+  pub blocks-reserved : T (tableOk su t) → (i : ℕ) → i < pairs su → reserved (getD t i 0) ≡ rbwbOf (getD t i 0)
+  blocks-reserved k i l = form-reserved (getD t i 0) (words-form (table-facts su t long k) i l) ∙ low-blocks (getD t i 0)
+
+  sums : ((i : ℕ) → i < pairs su → Form (getD t i 0)) → sumBelow (su .nr * su .na) (blocksAt t) ≡ total t
+  unfolding pairs total sumOf blocksAt
+  sums f =
+      ap (λ (n : ℕ). sumBelow n (blocksAt t)) (sym long)
+      ∙ sum-same (length t) (blocksAt t) (λ i. reserved (getD t i 0)) (λ i l. sym (form-reserved (getD t i 0) (f i (le-trans l (le-of-eq long)))))
+
+  module _ (fit : (i : ℕ) → getD t i 0 < 4294967296) where
+    -- from the passes to the facts
+    module _ (form : gather (su .nr * su .na) (formAt t) ≡ 0) (rows : gather (su .nr) (rowAt (su .na) t) ≡ 0) where
+      word : (i : ℕ) → i < pairs su → Form (getD t i 0)
+      unfolding pairs formAt
+      word i l = formed (getD t i 0) (fit i) (gather-zero (su .nr * su .na) (formAt t) form i l)
+
+      module _ (rcid at : ℕ) (hr : rcid < su .nr) (ha : at < su .na) where
+        pair-form : Form (wordAt (su .na) t rcid at)
+        unfolding pairs wordAt
+        pair-form = word (pair (su .na) rcid at) (pair-inside (su .nr) (su .na) rcid at hr ha)
+
+        led : Led (su .na) (wordAt (su .na) t rcid) at
+        unfolding wordAt pair rowAt markAt
+        led =
+            row-held (su .na) (wordAt (su .na) t rcid) (λ a. fit (rcid * su .na + a)) (gather-zero (su .nr) (rowAt (su .na) t) rows rcid hr) at ha
+
+      view : (rcid at : ℕ) → rcid < su .nr → at < su .na → View su t rcid at (wordAt (su .na) t rcid at)
+      view rcid at hr ha = by (pair-form rcid at hr ha)
+        where
+          w : ℕ
+          w = wordAt (su .na) t rcid at
+
+          by : Form w → View su t rcid at w
+          by (forms.unset z) = unset z
+          by (forms.holder s u p) = holds s u p
+          by (forms.sharer s u n) =
+              let g = led rcid at hr ha u in
+              follows s (not-0 w u) (λ e. g .1 (ap (λ (a : ℕ). rbwbOf (wordAt (su .na) t rcid a)) e ∙ n)) (g .0)
+              (form-holder (pair-form rcid (sharedAtOf w) hr (g .0)) (g .1))
+
+    -- from the facts to the passes
+    no-form : TableFacts su t → gather (su .nr * su .na) (formAt t) ≡ 0
+    unfolding pairs formAt
+    no-form f = zero-gather (su .nr * su .na) (formAt t) (λ i l. form-of (getD t i 0) (fit i) (words-form f i l))
+
+    no-rows : TableFacts su t → gather (su .nr) (rowAt (su .na) t) ≡ 0
+    unfolding wordAt pair rowAt markAt
+    no-rows f =
+        zero-gather (su .nr) (rowAt (su .na) t)
+        (λ rcid hr. held-row (su .na) (wordAt (su .na) t rcid) (λ a. fit (rcid * su .na + a)) (λ at ha. leads rcid at hr (f .words rcid at hr ha)))
+      where
+        leads : (rcid at : ℕ) → rcid < su .nr → View su t rcid at (wordAt (su .na) t rcid at) → Led (su .na) (wordAt (su .na) t rcid) at
+        leads rcid at hr (unset z) u = absurd (not-0 (wordAt (su .na) t rcid at) u (ap useSharedOf z ∙ shared-0))
+        leads rcid at hr (holds s v p) u = absurd (not-0 (wordAt (su .na) t rcid at) u v)
+        leads rcid at hr (follows s d o k h) u = (k, holder-blocks (f .words rcid (sharedAtOf (wordAt (su .na) t rcid at)) hr k) h)
+
+    module _ {form rows blocks : ℕ} (l : Looked (su .na) t (su .nr) form rows blocks) where
+      there : T (eqb form 0 && eqb rows 0 && leb blocks (su .mrbwb)) → T (tableOk su t)
+      there k =
+          let f : T (eqb form 0) = search (and-l, and-r) in
+          let r : T (eqb rows 0) = search (and-l, and-r) in
+          let b : T (leb blocks (su .mrbwb)) = search (and-l, and-r) in
+          let nf = sym (l .words .bits-are) ∙ eqb→eq form 0 f in
+          let nr = sym (l .rows-are) ∙ eqb→eq rows 0 r in
+          table-ok su t
+          (record {
+            long = long;
+            bounded = le-trans (le-of-eq (sym (sums (word nf nr)) ∙ sym (l .words .blocks-are))) (leb→le blocks (su .mrbwb) b);
+            words = view nf nr;
+          })
+
+      pub blocks-total : T (tableOk su t) → blocks ≡ total t
+      blocks-total k = l .words .blocks-are ∙ sums (words-form (table-facts su t long k))
+
+      back : T (tableOk su t) → T (eqb form 0 && eqb rows 0 && leb blocks (su .mrbwb))
+      back k =
+          let f = table-facts su t long k in
+          let a : T (eqb form 0) = eqb-in form 0 (l .words .bits-are ∙ no-form f) in
+          let b : T (eqb rows 0) = eqb-in rows 0 (l .rows-are ∙ no-rows f) in
+          let d : T (leb blocks (su .mrbwb)) = le→leb blocks (su .mrbwb) (le-trans (le-of-eq (blocks-total k)) (f .bounded)) in
+          search and-in
+
+      pub table-test : (eqb form 0 && eqb rows 0 && leb blocks (su .mrbwb)) ≡ tableOk su t
+      table-test = same-test (eqb form 0 && eqb rows 0 && leb blocks (su .mrbwb)) (tableOk su t) there back
+
+-- ---- used bytes
+
+-- by Rbwb alone
+pub used-test : (q n : ℕ) (active used : List ℕ)
+    → eqb (gather n (overAt q active used)) 0 ≡ allBelow n (λ i. leb (getD used i 0) (rbwbOf (getD active i 0) * q))
+unfolding overAt blocksAt
+used-test q n active used =
+    none-bad n 4294967294 (λ i. leb (getD used i 0) (blocksAt active i * q))
+    ∙ all-same n _ _ (λ i l. ap (λ (b : ℕ). leb (getD used i 0) (b * q)) (low-blocks (getD active i 0)))
+
+-- ---- all tables
+
+-- a part of a test that matters only where its first part holds
+guarded : (a c u v k e : Bool) → (T a → u ≡ v) → (a && c && u && k && e) ≡ (a && c && v && k && e)
+guarded true c u v k e h = rw (h tt)
+guarded false c u v k e h = refl
+
+module _ (su : Setup) (active configured used counters events : List ℕ) (z : Sized su active configured used counters events) where
+  within : ℕ → Bool
+  within i = leb (getD used i 0) (reserved (getD active i 0) * su .q)
+
+  used-reserved : T (tableOk su active) → allBelow (length used) (λ i. leb (getD used i 0) (rbwbOf (getD active i 0) * su .q)) ≡ allBelow (pairs su) within
+  unfolding within
+  used-reserved k =
+      ap (λ (n : ℕ). allBelow n (λ i. leb (getD used i 0) (rbwbOf (getD active i 0) * su .q))) (z .used-long)
+      ∙ all-same (pairs su) _ within
+      (λ i l. ap (λ (b : ℕ). leb (getD used i 0) (b * su .q)) (sym (blocks-reserved su active (z .active-long) k i l)))
+
+  pub tables-test : {a c u k e : Bool} → a ≡ tableOk su active → c ≡ tableOk su configured
+      → u ≡ allBelow (length used) (λ i. leb (getD used i 0) (rbwbOf (getD active i 0) * su .q))
+      → k ≡ allBelow (length counters) (λ i. counterOk reg.bandwidthCounter reg.bandwidthCtr (su .w) (getD counters i 0))
+      → e ≡ allBelow (length events) (λ i. settingOk (su .na) lastEvent (getD events i 0))
+      → (a && c && u && k && e) ≡ tablesOk su active configured used counters events
+  unfolding tablesOk within
+  tables-test {a} {c} {u} {k} {e} ea ec eu ek ee =
+      guarded a c u (allBelow (pairs su) within) k e (λ t. eu ∙ used-reserved (subst T ea t)) ∙ rw (ea, ec, ek, ee, z .counters-long, z .events-long)

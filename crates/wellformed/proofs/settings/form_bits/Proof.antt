@@ -1,0 +1,12 @@
+-- `wellformed::settings::form_bits` meets its contract.
+use borrow.Author.Needs.{needs}
+use Rattle.wellformed.specs.Bits.{formBits}
+use Rattle.wellformed.proofs.settings.form_bits.Statement.{statement}
+use Rattle.wellformed.proofs.settings.form_bits.Tie as tie
+
+returns : tie.Need-returns
+unfolding formBits
+returns c = cc
+
+pub form-bits-spec : {M : Type 1} → statement M
+form-bits-spec = tie.close (tie.spec (λ c κs. search needs) (λ c κs. search needs) returns)
