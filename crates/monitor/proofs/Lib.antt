@@ -2,6 +2,7 @@
 pub mod Control
 pub mod Operations
 pub mod Counters
+pub mod Occupancy
 pub mod Settings
 pub mod Origins
 pub mod Monitor
