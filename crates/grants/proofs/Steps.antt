@@ -1,17 +1,12 @@
--- Steps of the proofs: bounds of results, and the holder from the words that were read.
+-- Steps of the proofs: the bound of a choice, and the holder from the words that were read.
 use mathlib.Core.Path.{_≡_}
 use mathlib.Core.Bool.{Bool, true, false, cond}
 use mathlib.Core.List.{List}
 use Prim.Native.Nat.{ℕ, _+_, _≤_}
 use native.Mathlib.Omega.{arith}
 use lib.ListN.{getD}
-use Rattle.tables.specs.Below.{Small}
 use Rattle.access.specs.Pairs.{pair, wordAt}
 use Rattle.bandwidth_model.specs.Rules.{Setup, sharedAtOf, isHolder, isSharer, nobody, held, holderOf}
-
--- a value and its bound
-pub small : {x m r : ℕ} → r ≡ x → x ≤ m → Small x m r
-small e h = record { is = e; small = rw e h }
 
 -- a choice is at most both together
 pub pick-le : (b : Bool) (x y : ℕ) → cond b x y ≤ x + y
