@@ -2,13 +2,21 @@
 use mathlib.Core.Path.{_≡_, refl, sym, ap, _∙_}
 use mathlib.Core.Bool.{Bool, true, false, cond}
 use mathlib.Core.List.{List}
-use Prim.Native.Nat.{ℕ, zero, suc, _*_, _/_, _%_, _≤_, _<_}
+use Prim.Native.Nat.{ℕ, zero, suc, _+_, _-_, _*_, _/_, _%_, _≤_, _<_}
 use native.Mathlib.Nat.{mul-le-mul-right, mul-add-mod-self-right, mod-eq-of-lt, mul-add-div-right, div-eq-of-lt, div-lt-iff-lt-mul, div-add-mod', mod-lt, mul-zero, zero-lt-suc}
 use native.Mathlib.Omega.{arith}
 use lib.Dec.{T, ltb, ltb→lt, lt→ltb}
 use lib.ListN.{length, set}
 use lib.Seq.{getD-set-same, getD-set-other}
 use Rattle.access.specs.Pairs.{pair, wordAt, knownAt}
+
+-- the places of the first RCID, and the others
+pub rows : (m n : ℕ) → 1 ≤ m → m * n ≡ n + (m - 1) * n
+rows zero n h = absurd (omega arith)
+rows (suc m) n h =
+    let one : suc m * n ≡ n + m * n = omega arith in
+    let less : m ≡ suc m - 1 = omega arith in
+    one ∙ ap (λ (k : ℕ). n + k * n) less
 
 pub pair-inside : (nr na rcid at : ℕ) → rcid < nr → at < na → pair na rcid at < nr * na
 unfolding pair

@@ -13,7 +13,7 @@ use Rattle.access.specs.declared.Refusal.{Refusal}
 use Rattle.access.specs.declared.Refusal.the-variants.{Identifier}
 use Rattle.access.specs.Access.{readChecks, writeChecks}
 use Rattle.access.specs.Pairs.{knownAt}
-use Rattle.tables.proofs.Tests.{nor-l, of-true}
+use Rattle.tables.proofs.Tests.{nor-l, of-true, of-false}
 use Rattle.monitor.specs.Monitor.{Monitor, cleared, writeMon, counted}
 use Rattle.monitor.specs.Bytes.{lastEvent, countsRequest, added}
 use Rattle.bandwidth_model.specs.Rules.{Setup, setupOk, pairs, Holder, holderOf, bwWord}
@@ -24,7 +24,7 @@ use Rattle.bandwidth_model.proofs.Steps.{step-failed, step-refused, step-done, 
 use Rattle.bandwidth.specs.declared.check.Totals.{Totals}
 use Rattle.bandwidth.specs.View.{outcome}
 use Rattle.bandwidth.specs.Checked.{Passes, Fresh}
-use Rattle.bandwidth.proofs.Checks.{fails, passing, setup-fails, lengths-fail, setup-passes}
+use Rattle.bandwidth.proofs.Checks.{passing, setup-fails, lengths-fail, setup-passes}
 
 -- ---- refused or performed
 
@@ -76,16 +76,16 @@ module _ {s : State} {t : Totals} (p : Passes s t) where
 
 -- an RCID that passes check 7
 pub known-rcid : (nr nm rcid mcid : ℕ) → (leb nr rcid || leb nm mcid) ≡ false → rcid < nr
-known-rcid nr nm rcid mcid e = nleb→lt nr rcid (nor-l (leb nr rcid) (leb nm mcid) (fails (leb nr rcid || leb nm mcid) e))
+known-rcid nr nm rcid mcid e = nleb→lt nr rcid (nor-l (leb nr rcid) (leb nm mcid) (of-false e))
 
 module _ (s : State) (su : Setup) where
   pub reset-1 : false ≡ setupOk su → outcome (refused 1) s ≡ step s (reset su)
   unfolding refuse
-  reset-1 e = reset-failed s su 1 (lit< tt) (setup-fails su s (fails (setupOk su) (sym e)))
+  reset-1 e = reset-failed s su 1 (lit< tt) (setup-fails su s (of-false (sym e)))
 
   pub reset-2 : true ≡ setupOk su → false ≡ lengthsOk su s → outcome (refused 2) s ≡ step s (reset su)
   unfolding refuse
-  reset-2 e f = reset-failed s su 2 (lit< tt) (lengths-fail su s (of-true (sym e)) (fails (lengthsOk su s) (sym f)))
+  reset-2 e f = reset-failed s su 2 (lit< tt) (lengths-fail su s (of-true (sym e)) (of-false (sym f)))
 
   pub reset-0 : true ≡ setupOk su → true ≡ lengthsOk su s → (active configured used counters events : List ℕ) → Fresh su active configured used counters events
       → outcome done (record {

@@ -1,22 +1,21 @@
 -- Checks 1 to 3 as facts, both ways, and what the first that fails gives.
-use mathlib.Core.Path.{_≡_, refl, sym, ap, subst, _∙_}
-use mathlib.Core.Bool.{Bool, true, false, not, cond, _&&_}
-use mathlib.Core.List.{List}
+use mathlib.Core.Path.{_≡_, sym, ap, subst, _∙_}
+use mathlib.Core.Bool.{Bool, not, _&&_}
 use Prim.Native.Nat.{ℕ, _-_, _*_, _<_, _^_}
 use native.Mathlib.Nat.{mod-eq-of-lt}
 use lib.Bits.{and-mask}
 use lib.Dec.{T, leb, eqb, eqb→eq}
-use lib.ListN.{length, getD}
+use lib.ListN.{getD}
 use Rattle.fields.specs.Layout.{kept}
 use Rattle.fields.specs.Registers as reg
 use Rattle.fields.proofs.Registers.{bandwidthCounter-kept}
 use Rattle.access.specs.Checks.{first}
 use Rattle.tables.specs.Below.{allBelow}
-use Rattle.tables.proofs.Tests.{and-l, and-r, and-in, not-in, not-both, eqb-in, cond-yes, cond-no, is-true, is-false}
+use Rattle.tables.proofs.Tests.{and-l, and-r, and-in, eqb-in, cond-yes, cond-no, not-not-in, same-test}
 use Rattle.monitor.specs.Monitor.{monWord, statusOf, counterOk, settingOk, monitorOk}
 use Rattle.monitor.specs.Bytes.{lastEvent}
 use Rattle.bandwidth_model.specs.Rules.{Setup, setupOk, pairs, reserved, total, poolOf}
-use Rattle.bandwidth_model.specs.Facts.{Ranges, Sized}
+use Rattle.bandwidth_model.specs.Facts.{Sized}
 use Rattle.bandwidth_model.specs.Model.{State, tableOk, usageOk, registersOk, lengthsOk, wellFormed, setupChecks, stateChecks}
 use Rattle.bandwidth_model.proofs.Setup.{setup-ok}
 use Rattle.bandwidth_model.proofs.Steps.{Passing}
@@ -28,11 +27,6 @@ use Rattle.bandwidth.specs.declared.check.Check.the-variants.{Passed, Fa
 use Rattle.bandwidth.specs.Checked.{Passes, Checked}
 use Rattle.access.specs.declared.Refusal.{Refusal}
 use Rattle.access.specs.Refusals.{numberOf}
-
--- two tests that pass together are one
-pub same-test : (a b : Bool) → (T a → T b) → (T b → T a) → a ≡ b
-same-test true b f g = sym (is-true b (f tt))
-same-test false b f g = sym (is-false b (not-in b (λ t. g t)))
 
 -- ---- check 2
 
@@ -49,12 +43,6 @@ passing {s} p = record { setup = setup-ok (s .setup) (p .ranges); lengths = leng
 
 -- ---- the first check that fails
 
-pub fails : (b : Bool) → b ≡ false → T (not b)
-fails b e = subst (λ (x : Bool). T (not x)) (sym e) tt
-
-passes-not : (b : Bool) → T b → T (not (not b))
-passes-not b t = not-in (not b) (not-both b t)
-
 module _ (su : Setup) (s : State) where
   pub setup-fails : T (not (setupOk su)) → first (setupChecks su s) 0 ≡ 1
   unfolding setupChecks
@@ -63,12 +51,12 @@ module _ (su : Setup) (s : State) where
   pub lengths-fail : T (setupOk su) → T (not (lengthsOk su s)) → first (setupChecks su s) 0 ≡ 2
   unfolding setupChecks
   lengths-fail t n =
-      cond-no {A = ℕ} (not (setupOk su)) 1 _ (passes-not (setupOk su) t) ∙ cond-yes {A = ℕ} (not (lengthsOk su s)) 2 0 n
+      cond-no {A = ℕ} (not (setupOk su)) 1 _ (not-not-in (setupOk su) t) ∙ cond-yes {A = ℕ} (not (lengthsOk su s)) 2 0 n
 
   pub setup-passes : T (setupOk su) → T (lengthsOk su s) → first (setupChecks su s) 0 ≡ 0
   unfolding setupChecks
   setup-passes t l =
-      cond-no {A = ℕ} (not (setupOk su)) 1 _ (passes-not (setupOk su) t) ∙ cond-no {A = ℕ} (not (lengthsOk su s)) 2 0 (passes-not (lengthsOk su s) l)
+      cond-no {A = ℕ} (not (setupOk su)) 1 _ (not-not-in (setupOk su) t) ∙ cond-no {A = ℕ} (not (lengthsOk su s)) 2 0 (not-not-in (lengthsOk su s) l)
 
 module _ (s : State) where
   pub check-1 : T (not (setupOk (s .setup))) → first (stateChecks s) 0 ≡ 1
@@ -78,14 +66,14 @@ module _ (s : State) where
   pub check-2 : T (setupOk (s .setup)) → T (not (lengthsOk (s .setup) s)) → first (stateChecks s) 0 ≡ 2
   unfolding stateChecks setupChecks
   check-2 t n =
-      cond-no {A = ℕ} (not (setupOk (s .setup))) 1 _ (passes-not (setupOk (s .setup)) t)
+      cond-no {A = ℕ} (not (setupOk (s .setup))) 1 _ (not-not-in (setupOk (s .setup)) t)
       ∙ cond-yes {A = ℕ} (not (lengthsOk (s .setup) s)) 2 _ n
 
   pub check-3 : T (setupOk (s .setup)) → T (lengthsOk (s .setup) s) → T (not (wellFormed s)) → first (stateChecks s) 0 ≡ 3
   unfolding stateChecks setupChecks
   check-3 t l n =
-      cond-no {A = ℕ} (not (setupOk (s .setup))) 1 _ (passes-not (setupOk (s .setup)) t)
-      ∙ cond-no {A = ℕ} (not (lengthsOk (s .setup) s)) 2 _ (passes-not (lengthsOk (s .setup) s) l)
+      cond-no {A = ℕ} (not (setupOk (s .setup))) 1 _ (not-not-in (setupOk (s .setup)) t)
+      ∙ cond-no {A = ℕ} (not (lengthsOk (s .setup) s)) 2 _ (not-not-in (lengthsOk (s .setup) s) l)
       ∙ cond-yes {A = ℕ} (not (wellFormed s)) 3 0 n
 
 -- ---- check 3

@@ -1,10 +1,10 @@
 -- The table of a reset, as the code fills it.
-use mathlib.Core.Path.{_≡_, refl, ap, ap₂, _∙_}
-use mathlib.Core.List.{List, [], _∷_, _++_}
+use mathlib.Core.Path.{_≡_, ap, _∙_}
+use mathlib.Core.List.{List, _∷_, _++_}
 use Prim.Native.Nat.{ℕ, zero, suc, _+_, _-_, _*_, _≤_, _<_}
 use native.Mathlib.Nat.{suc-mul, mul-le-mul, mul-le-mul-right}
 use native.Mathlib.Omega.{arith}
-use lib.ListN.{length, set, drop, replicate}
+use lib.ListN.{set, drop, replicate}
 use Rattle.bandwidth_model.specs.Rules.{Setup, pairs, holderWord, sharerWord, resetWeight, resetTable}
 use Rattle.bandwidth_model.specs.Facts.{Ranges}
 

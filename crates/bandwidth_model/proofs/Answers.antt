@@ -1,7 +1,7 @@
 -- After an accepted reset the state passes its checks, so a call is refused only by its own arguments; and each STATUS has its own condition.
 use mathlib.Core.Path.{_≡_, refl, sym, ap, _∙_}
 use mathlib.Core.Bool.{Bool, true, false, not, cond, _&&_, _||_}
-use mathlib.Core.List.{List, [], _∷_, _++_}
+use mathlib.Core.List.{List}
 use Prim.Native.Nat.{ℕ, _%_, _*_, _+_, _^_}
 use native.Mathlib.Omega.{arith}
 use lib.Dec.{T, leb, eqb, le→leb}
@@ -16,9 +16,9 @@ use Rattle.tables.proofs.Tests.{and-in, eqb-in}
 use Rattle.monitor.specs.Monitor.{monitorOk}
 use Rattle.monitor.specs.Bytes.{lastEvent}
 use Rattle.bandwidth_model.specs.Rules.{Setup, setupOk, pairs, reserved, bwWord, poolOf, allocStatus}
-use Rattle.bandwidth_model.specs.Calls.{Call, reset, read, write, request, endWindow, refused, done}
+use Rattle.bandwidth_model.specs.Calls.{Call, reset, read, write, request, endWindow, done}
 use Rattle.bandwidth_model.specs.Model.{State, allocWord, tableOk, usageOk, registersOk, wellFormed, lengthsOk, argumentChecks, setupChecks, checks, refusal, step}
-use Rattle.bandwidth_model.specs.Ledger.{Window, Ledger, accepted}
+use Rattle.bandwidth_model.specs.Ledger.{Window, Ledger}
 use Rattle.bandwidth_model.specs.Runs.{stateAfter, ledgerAfter, answerAfter}
 use Rattle.bandwidth_model.specs.Claim.{isReset}
 use Rattle.bandwidth_model.specs.Answers.{Answered, Answering, Statuses}
@@ -27,7 +27,7 @@ use Rattle.access.proofs.Checks.{rows}
 use Rattle.monitor.proofs.Monitor.{monitor-ok}
 use Rattle.monitor.proofs.Operations.{monStatus-rows}
 use Rattle.bandwidth_model.proofs.Window.{used-in}
-use Rattle.bandwidth_model.proofs.Invariant.{Good, Inv}
+use Rattle.bandwidth_model.proofs.Invariant.{Good}
 use Rattle.bandwidth_model.proofs.Steps.{accept, refused-is, refusal-is, state-passes}
 use Rattle.bandwidth_model.proofs.Lists.{inv-after}
 

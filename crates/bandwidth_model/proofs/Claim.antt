@@ -2,18 +2,18 @@
 use mathlib.Core.Path.{_≡_, refl, sym, ap, _∙_}
 use mathlib.Core.Logic.{_⊎_, inl, inr}
 use mathlib.Core.List.{List, [], _∷_, _++_, List·Memᴰ, List·Memᴰ·cases-cons}
-use Prim.Native.Nat.{ℕ, _*_, _/_, _%_, _≤_, _<_, _^_}
+use Prim.Native.Nat.{ℕ, _%_, _<_, _^_}
 use native.Mathlib.Omega.{arith}
-use lib.Dec.{T, eqb}
+use lib.Dec.{eqb}
 use Rattle.access.specs.Access as access
 use mathlib.Core.Bool.{cond}
 use Rattle.tables.proofs.Tests.{cases}
-use Rattle.bandwidth_model.specs.Rules.{Setup, total, bwWord, opOf, rcidOf, atOf}
+use Rattle.bandwidth_model.specs.Rules.{Setup}
 use Rattle.bandwidth_model.specs.Calls.{Call, reset, read, write, done, value}
 use Rattle.bandwidth_model.specs.Model.{State, register, readAt, step}
-use Rattle.bandwidth_model.specs.Ledger.{Event, Window, Ledger, accepted}
-use Rattle.bandwidth_model.specs.Runs.{after, events, stateAfter, ledgerAfter, answerAfter, eventAfter}
-use Rattle.bandwidth_model.specs.Claim.{Fair, Setting, settings, untouched, Stands, Claim, Demand3}
+use Rattle.bandwidth_model.specs.Ledger.{Window, Ledger}
+use Rattle.bandwidth_model.specs.Runs.{after, stateAfter, ledgerAfter, answerAfter, eventAfter}
+use Rattle.bandwidth_model.specs.Claim.{Fair, Setting, Stands, Claim, Demand3}
 use Rattle.bandwidth_model.proofs.Words.{bw-lt}
 use Rattle.bandwidth_model.proofs.Invariant.{Inv, fair-now}
 use Rattle.bandwidth_model.proofs.Steps.{value-is}

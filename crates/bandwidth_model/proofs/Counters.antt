@@ -2,13 +2,13 @@
 use mathlib.Core.Path.{_≡_, refl, sym, ap, ap₂, subst, subst⁻¹, _∙_}
 use mathlib.Core.Bool.{Bool, true, false, not, cond, _&&_}
 use mathlib.Core.List.{List, [], _∷_, map}
-use Prim.Native.Nat.{ℕ, zero, suc, _+_, _≤_, _<_}
-use lib.Dec.{T, eqb, eqb→eq}
+use Prim.Native.Nat.{ℕ, zero, suc, _+_, _≤_}
+use lib.Dec.{eqb, eqb→eq}
 use lib.ListN.{getD, set, replicate, List·getD-map}
 use Rattle.access.specs.Access as access
 use Rattle.access.specs.Pairs.{knownAt}
 use Rattle.tables.proofs.Tests.{cases}
-use Rattle.monitor.specs.Monitor.{Monitor, cleared, configEvent, mcidOf, eventOf, monDone, settingOf, writeMon, counted}
+use Rattle.monitor.specs.Monitor.{Monitor, cleared, configEvent, mcidOf, eventOf, monDone, writeMon, counted}
 use Rattle.monitor.specs.Bytes.{lastEvent, countsRequest, added, counterOf}
 use Rattle.bandwidth_model.specs.Rules.{Setup, Holder, holderOf}
 use Rattle.bandwidth_model.specs.Calls.{Call, reset, read, write, request, endWindow, done, value}

@@ -1,9 +1,9 @@
 -- What every call keeps: the state is well formed, the ledger is the one built from it, and every window is fair.
-use mathlib.Core.Path.{_≡_, refl, sym, ap, subst⁻¹, _∙_}
-use mathlib.Core.Bool.{Bool, not, cond, _&&_, _||_}
+use mathlib.Core.Path.{_≡_, refl, sym, subst⁻¹, _∙_}
+use mathlib.Core.Bool.{not, cond, _||_}
 use mathlib.Core.Logic.{_⊎_, inl, inr}
-use mathlib.Core.List.{List, [], _∷_, List·Memᴰ, List·Memᴰ·cases-cons}
-use Prim.Native.Nat.{ℕ, _+_, _-_, _*_, _≤_, _<_, min}
+use mathlib.Core.List.{List, _∷_, List·Memᴰ, List·Memᴰ·cases-cons}
+use Prim.Native.Nat.{ℕ, _+_, _-_, _≤_, _<_, min}
 use native.Mathlib.Nat.{add-zero}
 use native.Mathlib.Omega.{arith}
 use lib.Dec.{T, leb, eqb, eqb→eq, nleb→lt}
@@ -17,10 +17,10 @@ use Rattle.access.specs.Checks.{first}
 use Rattle.tables.proofs.Tests.{cases, nor-l, not-not, none-test, none-rest, cond-same}
 use Rattle.monitor.specs.Monitor.{cleared, writeMon, counted}
 use Rattle.monitor.specs.Bytes.{lastEvent, countsRequest, added}
-use Rattle.bandwidth_model.specs.Rules.{Setup, setupOk, pairs, reserved, weightOf, isHolder, bwWord, resetTable, opOf, rcidOf, atOf, allocStatus, Holder, nobody, held, holderOf, poolOf}
+use Rattle.bandwidth_model.specs.Rules.{Setup, setupOk, pairs, weightOf, isHolder, bwWord, resetTable, opOf, rcidOf, atOf, allocStatus, Holder, nobody, held, holderOf, poolOf}
 use Rattle.bandwidth_model.specs.Calls.{Call, reset, read, write, request, endWindow}
-use Rattle.bandwidth_model.specs.Model.{State, Usage, allocWord, opened, afterReset, afterWindow, writeAlloc, writeBw, withAlloc, withMonitor, writeAt, fromReservation, fromPool, Grant, grantOf, grantSum, spend, serve, serveFrom, requested, perform, lengthsOk, wellFormed, setupChecks, stateChecks, argumentChecks, checks, refusal, refuse, step}
-use Rattle.bandwidth_model.specs.Ledger.{Event, Window, Ledger, openWindow, accepted, bytesOf, noteGrant, noteRequest, noteAlloc, noteBw, noteWrite, noteEnd, startedAfter, noteCall, note}
+use Rattle.bandwidth_model.specs.Model.{State, Usage, allocWord, opened, afterReset, afterWindow, writeAlloc, writeBw, withAlloc, withMonitor, writeAt, fromReservation, fromPool, grantOf, grantSum, spend, serve, serveFrom, requested, perform, lengthsOk, wellFormed, setupChecks, stateChecks, argumentChecks, checks, refusal, refuse, step}
+use Rattle.bandwidth_model.specs.Ledger.{Window, Ledger, openWindow, accepted, bytesOf, noteGrant, noteRequest, noteAlloc, noteBw, noteWrite, noteEnd, startedAfter, noteCall, note}
 use Rattle.bandwidth_model.specs.Claim.{Fair}
 use Rattle.bandwidth_model.proofs.Words.{bw-0, bw-bw}
 use Rattle.bandwidth_model.proofs.Setup.{ranges}

@@ -1,26 +1,25 @@
 -- A setting stays until its pair is set again or a reset comes, and reads back.
-use mathlib.Core.Path.{_≡_, refl, sym, ap, subst, subst⁻¹, _∙_}
+use mathlib.Core.Path.{_≡_, refl, sym, subst, subst⁻¹, _∙_}
 use mathlib.Core.Bool.{Bool, true, false, not, cond, _&&_, _||_}
-use mathlib.Core.List.{List, [], _∷_, _++_, List·Memᴰ, List·Memᴰ·not-nil, List·Memᴰ·eq-of-singleton}
+use mathlib.Core.List.{List, [], _∷_}
 use Prim.Native.Nat.{ℕ, _<_}
-use native.Mathlib.Omega.{arith}
-use lib.Dec.{T, leb, eqb, eqb→eq, leb→le}
-use lib.ListN.{getD, set}
+use lib.Dec.{T, eqb}
+use lib.ListN.{set}
 use Rattle.access.specs.Access as access
-use Rattle.access.specs.Pairs.{pair, wordAt, knownAt}
-use Rattle.tables.proofs.Tests.{cases, and-l, and-r, and-in, nor-l, nor-r, or-r, not-in, not-both, eqb-in, neqb-in, cond-yes, cond-no}
+use Rattle.access.specs.Pairs.{pair, wordAt}
+use Rattle.tables.proofs.Tests.{cases, and-l, and-r, and-in, nor-l, nor-r, not-both, eqb-in, cond-yes, nand-r}
 use Rattle.monitor.specs.Monitor.{writeMon}
 use Rattle.monitor.specs.Bytes.{lastEvent}
-use Rattle.bandwidth_model.specs.Rules.{Setup, stored, configLimit, readLimit, validOp, opOf, rcidOf, atOf, badOperand, allocStatus, allocDone, configuredAfter, bwAfter, holderOf}
-use Rattle.bandwidth_model.specs.Calls.{Call, reset, read, write, request, endWindow, Answer}
-use Rattle.bandwidth_model.specs.Model.{State, Outcome, afterWindow, writeAlloc, writeBw, withAlloc, withMonitor, writeAt, serve, serveFrom, requested, perform, refusal, refuse, step}
+use Rattle.bandwidth_model.specs.Rules.{Setup, stored, configLimit, rcidOf, atOf, allocDone, configuredAfter}
+use Rattle.bandwidth_model.specs.Calls.{Call, reset, read, write, request, endWindow}
+use Rattle.bandwidth_model.specs.Model.{State, afterWindow, writeAlloc, writeBw, withAlloc, withMonitor, writeAt, serve, serveFrom, requested, perform, refusal, refuse, step}
 use Rattle.bandwidth_model.specs.Ledger.{Event, Window, Ledger, accepted, note}
 use Rattle.bandwidth_model.specs.Claim.{Setting, settingsBy, settings, setsPair, isReset, touches, untouched}
 use Rattle.bandwidth_model.specs.Runs.{after, events}
 use Rattle.bandwidth_model.proofs.Accepted.{accepted-limit}
 use Rattle.access.proofs.Pairs.{pair-at, pair-rcid, word-set-other}
 use Rattle.bandwidth_model.proofs.Invariant.{Good, ledgerBy, Inv, inv-step}
-use Rattle.bandwidth_model.proofs.Steps.{perform-accepted, done-step}
+use Rattle.bandwidth_model.proofs.Steps.{perform-accepted}
 
 -- ---- a call that does not touch a pair keeps its word
 
@@ -64,10 +63,6 @@ unfolding setsPair
 sets-one true rcid at p n = nor-l (eqb (p .rcid) rcid && eqb (p .at) at) false n
 sets-one false rcid at p n = tt
 
-nand : (a b : Bool) → T (not (a && b)) → T a → T (not b)
-nand true b t u = t
-nand false b t u = absurd u
-
 module _ {s : State} {asked granted : List ℕ} {sum : ℕ} {closed : List Window} (g : Good s asked granted sum closed) where
   same-perform : (c : Call) (rcid at : ℕ) → at < s .setup .na → T (not (isReset c)) → T (not (setsPair rcid at (settingsBy (ledgerBy s asked granted sum closed) c)))
       → Same s (perform s c .state) rcid at
@@ -91,7 +86,7 @@ module _ {s : State} {asked granted : List ℕ} {sum : ℕ} {closed : List Windo
       (eqb (refusal s c) 0)
       (λ t n. let y = accepted (perform s c .answer) in
       let z = setsPair rcid at (cond y (settingsBy l c) []) in
-      same-perform c rcid at h (nand y (isReset c) (nor-l (y && isReset c) z n) (perform-accepted s c))
+      same-perform c rcid at h (nand-r y (isReset c) (nor-l (y && isReset c) z n) (perform-accepted s c))
       (subst (λ (k : List Setting). T (not (setsPair rcid at k))) (cond-yes y (settingsBy l c) [] (perform-accepted s c)) (nor-r (y && isReset c) z n)))
       (λ t n. record { word = refl; setup = refl })
 

@@ -4,9 +4,9 @@ use mathlib.Core.List.{List, [], _∷_, _++_, List·Memᴰ·not-nil}
 use lib.Dec.{T}
 use lib.ListN.{replicate}
 use Rattle.bandwidth_model.specs.Rules.{Setup, pairs, setupOk}
-use Rattle.bandwidth_model.specs.Calls.{Call, reset, Answer, done}
+use Rattle.bandwidth_model.specs.Calls.{Call, reset, done}
 use Rattle.bandwidth_model.specs.Model.{State, Outcome, opened, afterReset, perform, step}
-use Rattle.bandwidth_model.specs.Ledger.{Event, Ledger, openWindow, startedAfter, started, note, noteAll}
+use Rattle.bandwidth_model.specs.Ledger.{Ledger, openWindow, startedAfter, started, note, noteAll}
 use Rattle.bandwidth_model.specs.Runs.{after, events, stateAfter, ledgerAfter}
 use Rattle.bandwidth_model.proofs.Invariant.{Inv, reset-good, accepted-setup, inv-step}
 use Rattle.bandwidth_model.proofs.Steps.{unrefused, done-step, accepted-done}

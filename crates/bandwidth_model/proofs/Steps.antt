@@ -1,12 +1,12 @@
 -- One call: where it is accepted it is performed, and where it is refused its number is the first check's.
 use mathlib.Core.Path.{_≡_, refl, sym, subst, subst⁻¹, ap, _∙_}
-use mathlib.Core.Bool.{Bool, not, cond}
+use mathlib.Core.Bool.{not, cond}
 use Prim.Native.Nat.{ℕ, _<_}
 use native.Mathlib.Omega.{arith}
 use lib.Dec.{T, eqb, eqb→eq}
 use Rattle.access.specs.Checks.{first}
 use Rattle.access.proofs.Checks.{first-append, first-other}
-use Rattle.tables.proofs.Tests.{cases, not-in, not-both, eqb-in, neqb-in, cond-yes, cond-no}
+use Rattle.tables.proofs.Tests.{cases, eqb-in, neqb-in, cond-yes, cond-no, not-not-in}
 use Rattle.bandwidth_model.specs.Rules.{Setup, setupOk}
 use Rattle.bandwidth_model.specs.Calls.{Call, reset, read, write, request, endWindow, Answer, refused, done, value}
 use Rattle.bandwidth_model.specs.Model.{State, Outcome, readAt, serve, serveFrom, requested, perform, lengthsOk, wellFormed, argumentChecks, setupChecks, stateChecks, checks, refusal, refuse, step}
@@ -69,15 +69,12 @@ pub record Passing (s : State) : Type 0 where
   pub lengths : T (lengthsOk (s .setup) s)
   pub wellformed : T (wellFormed s)
 
-fails-not : (b : Bool) → T b → T (not (not b))
-fails-not b t = not-in (not b) (not-both b t)
-
 pub state-passes : (s : State) → Passing s → (rest : ℕ) → first (stateChecks s) rest ≡ rest
 unfolding stateChecks setupChecks
 state-passes s p rest =
-    cond-no {A = ℕ} (not (setupOk (s .setup))) 1 _ (fails-not (setupOk (s .setup)) (p .setup))
-    ∙ cond-no {A = ℕ} (not (lengthsOk (s .setup) s)) 2 _ (fails-not (lengthsOk (s .setup) s) (p .lengths))
-    ∙ cond-no {A = ℕ} (not (wellFormed s)) 3 rest (fails-not (wellFormed s) (p .wellformed))
+    cond-no {A = ℕ} (not (setupOk (s .setup))) 1 _ (not-not-in (setupOk (s .setup)) (p .setup))
+    ∙ cond-no {A = ℕ} (not (lengthsOk (s .setup) s)) 2 _ (not-not-in (lengthsOk (s .setup) s) (p .lengths))
+    ∙ cond-no {A = ℕ} (not (wellFormed s)) 3 rest (not-not-in (wellFormed s) (p .wellformed))
 
 -- a call other than a reset: the state's checks come first, then those of its arguments
 pub refusal-is : (s : State) (c : Call) → T (not (isReset c)) → refusal s c ≡ first (stateChecks s) (first (argumentChecks (s .setup) c) 0)

@@ -1,7 +1,7 @@
 -- Counters over lists of calls: a tally that sees only calls and their answers, and the claim that the controller's counters are the tally's.
 use mathlib.Core.Path.{_≡_}
 use mathlib.Core.Bool.{not, cond, _&&_}
-use mathlib.Core.List.{List, [], _∷_, _++_}
+use mathlib.Core.List.{List, [], _∷_}
 use Prim.Native.Nat.{ℕ, _+_, _<_}
 use lib.Dec.{eqb}
 use lib.ListN.{getD, set, replicate}

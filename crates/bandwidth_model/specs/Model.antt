@@ -12,7 +12,7 @@ use Rattle.access.specs.Access as access
 use Rattle.access.specs.Pairs.{pair, wordAt, knownAt}
 use Rattle.monitor.specs.Monitor.{Monitor, cleared, writeMon, counted, monitorOk}
 use Rattle.monitor.specs.Bytes.{lastEvent, countsRequest, added}
-use Rattle.bandwidth_model.specs.Rules.{Setup, setupOk, pairs, rbwbOf, weightOf, bwWord, stored, isHolder, reserved, total, resetTable, opOf, rcidOf, atOf, badOperand, allocStatus, configuredAfter, bwAfter, Holder, nobody, held, holderOf, poolOf}
+use Rattle.bandwidth_model.specs.Rules.{Setup, setupOk, pairs, weightOf, bwWord, stored, reserved, resetTable, opOf, rcidOf, atOf, badOperand, allocStatus, configuredAfter, bwAfter, Holder, nobody, held, holderOf, poolOf}
 use Rattle.bandwidth_model.specs.Calls.{Call, reset, read, write, request, endWindow, Answer, refused, done, value, granted}
 
 -- ---- the state
@@ -61,7 +61,7 @@ unfoldable pub usageOk : Setup → Usage → Bool
 usageOk su u =
     allBelow (pairs su) (λ i. leb (getD (u .used) i 0) (reserved (getD (u .active) i 0) * su .q)) && leb (u .pool) (poolOf su (u .active))
 
--- the registers hold only their fields, with BUSY 0
+-- alloc_ctl and bw_alloc hold only their fields, with BUSY 0
 unfoldable pub registersOk : Setup → Allocation → Bool
 registersOk su a = eqb (a .ctl) (allocWord su (a .ctl) (get reg.status (a .ctl))) && eqb (a .bw) (bwWord (a .bw))
 

@@ -6,7 +6,7 @@ use lib.Dec.{leb, ltb, eqb}
 use lib.ListN.{set, replicate}
 use Rattle.fields.specs.Layout.{get, pack, kept}
 use Rattle.fields.specs.Registers as reg
-use Rattle.tables.specs.Below.{anyBelow, sumOf}
+use Rattle.tables.specs.Below.{between, anyBelow, sumOf}
 use Rattle.access.specs.Checks.{Check, _gives_, first}
 use Rattle.access.specs.Pairs.{pair, wordAt}
 
@@ -20,9 +20,6 @@ pub record Setup : Type 0 where
   pub nm : ℕ
   pub q : ℕ
   pub w : ℕ
-
-unfoldable pub between : ℕ → ℕ → ℕ → Bool
-between low x high = leb low x && leb x high
 
 unfoldable pub setupOk : Setup → Bool
 setupOk su =

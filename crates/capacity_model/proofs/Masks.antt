@@ -1,5 +1,5 @@
 -- Block masks: bits NCBLKS and above stay 0 in block_mask and in every mask of the table.
-use mathlib.Core.Path.{_≡_, sym, ap, _∙_}
+use mathlib.Core.Path.{_≡_, sym, _∙_}
 use mathlib.Core.Bool.{cond}
 use mathlib.Core.List.{List, _++_}
 use Prim.Native.Nat.{ℕ, zero, suc, _+_, _-_, _*_, _^_, _≤_, _<_}
@@ -10,6 +10,7 @@ use lib.Pow.{pow-pos, ones-lt}
 use Rattle.access.specs.Pairs.{pair, wordAt}
 use Rattle.tables.proofs.Tests.{cases}
 use Rattle.tables.proofs.Laws.{every-stored, length-stored, getD-zeros}
+use Rattle.access.proofs.Pairs.{rows}
 use Rattle.capacity_model.specs.Rules.{Setup, pairs, maskOf, allBlocks, resetMasks, configLimit, readLimit, rcidOf, atOf, allocDone, masksAfter, maskAfter}
 
 -- the mask has no bit that is held as 0
@@ -53,14 +54,6 @@ module _ (su : Setup) (masks : List ℕ) (mask v : ℕ) (f : MaskFacts su masks)
       (λ t. f .held (pair (su .na) (rcidOf v) (atOf su v))) (λ t. h)
 
 -- ---- reset
-
--- the first row, and the others
-rows : (m n : ℕ) → 1 ≤ m → m * n ≡ n + (m - 1) * n
-rows zero n h = absurd (omega arith)
-rows (suc m) n h =
-    let one : suc m * n ≡ n + m * n = omega arith in
-    let less : m ≡ suc m - 1 = omega arith in
-    one ∙ ap (λ (k : ℕ). n + k * n) less
 
 every-more : (P : ℕ → Type 0) (n x : ℕ) (l : List ℕ) → P x → ((i : ℕ) → P (getD l i 0)) → (i : ℕ) → P (getD (replicate n x ++ l) i 0)
 every-more P zero x l p h i = h i

@@ -6,6 +6,7 @@ use lib.Dec.{leb, eqb}
 use lib.ListN.{set, replicate}
 use Rattle.fields.specs.Layout.{get}
 use Rattle.fields.specs.Registers as reg
+use Rattle.tables.specs.Below.{between}
 use Rattle.access.specs.Checks.{Check, _gives_, first}
 use Rattle.access.specs.Pairs.{pair, wordAt}
 
@@ -17,9 +18,6 @@ pub record Setup : Type 0 where
   pub na : ℕ
   pub nm : ℕ
   pub w : ℕ
-
-unfoldable pub between : ℕ → ℕ → ℕ → Bool
-between low x high = leb low x && leb x high
 
 unfoldable pub setupOk : Setup → Bool
 setupOk su =

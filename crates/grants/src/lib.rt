@@ -2,6 +2,7 @@
 use fields::field;
 use settings::is_holder;
 use settings::is_sharer;
+use settings::place;
 use settings::reserved_blocks;
 use setup::Setup;
 use tables::least;
@@ -12,10 +13,10 @@ use tables::word32;
 ghost use mathlib.Core.Path.{_≡_};
 ghost use mathlib.Core.Bool.{cond};
 ghost use mathlib.Core.List.{List};
-ghost use Prim.Native.Nat.{ℕ, _-_, _*_, _<_, _≤_, min};
+ghost use Prim.Native.Nat.{ℕ, _-_, _*_, min};
 ghost use lib.Dec.{eqb};
 ghost use Rattle.tables.specs.Below.{Small};
-ghost use Rattle.access.specs.Pairs.{pair, knownAt};
+ghost use Rattle.access.specs.Pairs.{knownAt};
 ghost use Rattle.bandwidth_model.specs.Rules.{reserved, weightOf, sharedAtOf, holderOf};
 ghost use Rattle.bandwidth_model.specs.Facts.{Ranges};
 ghost use Rattle.bandwidth_model.specs.Model.{spend};
@@ -49,27 +50,19 @@ fn shared_at(word: u64) -> u64
     field(word, 28, 3)
 }
 
-// The place of a pair in a settings table.
-fn place(na: u64, rcid: u64, at: u64) -> u64
-    requires { ⌜ (na ≤ 8) × ((rcid < 256) × (at ≤ 7)) ⌝ }
-    ensures { λ r. ⌜ r ≡ pair na rcid at ⌝ }
-{
-    rcid * na + at
-}
-
 // The holder that a pair is led to: itself, or the one that it shares.
 pub fn holder_of(setup: Setup, active: &[u32], rcid: u64, at: u64) -> Holder
     requires { ⌜ PairIn (setupOf setup) rcid at ⌝ }
     ensures { λ r. ⌜ holderFrom r ≡ holderOf (setupOf setup) (now (active .entry)) rcid at ⌝ }
 {
-    let own = place(setup.na, rcid, at);
-    let word = word32(active, own as usize) as u64;
-    let other = place(setup.na, rcid, shared_at(word));
+    let own = place(setup, rcid, at);
+    let word = word32(active, own) as u64;
+    let other = place(setup, rcid, shared_at(word));
     if is_holder(word) {
-        return Holder::Held(own);
+        return Holder::Held(own as u64);
     }
     if is_sharer(word) {
-        return Holder::Held(other);
+        return Holder::Held(other as u64);
     }
     Holder::Nobody
 }

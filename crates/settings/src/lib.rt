@@ -2,7 +2,6 @@
 mod operand;
 
 use crate::operand::bad_operand;
-use crate::operand::place;
 use fields::AllocCtl;
 use fields::BwAlloc;
 use setup::Setup;
@@ -17,10 +16,20 @@ ghost use lib.ListN.{set};
 ghost use Rattle.fields.specs.Layout.{pack};
 ghost use Rattle.fields.specs.Registers.{allocCtl};
 ghost use Rattle.tables.specs.Below.{Small};
+ghost use Rattle.access.specs.Pairs.{pair};
 ghost use Rattle.bandwidth_model.specs.Rules.{isHolder, isSharer, reserved, stored, bwWord, validOp, allocStatus};
+ghost use Rattle.bandwidth_model.specs.Facts.{Ranges};
 ghost use Rattle.bandwidth_model.specs.Model.{registersOk, writeAlloc};
 ghost use Rattle.setup.specs.View.{setupOf};
 ghost use Rattle.settings.specs.View.{allocation, Ready, Held};
+
+// The place of a pair, which may lie outside the table.
+pub fn place(setup: Setup, rcid: u64, at: u64) -> usize
+    requires { ⌜ Ranges (setupOf setup) × ((rcid < 4096) × (at < 8)) ⌝ }
+    ensures { λ r. ⌜ r ≡ pair (setup .na) rcid at ⌝ }
+{
+    (rcid * setup.na + at) as usize
+}
 
 pub fn is_holder(word: u64) -> bool
     ensures { λ r. ⌜ r ≡ isHolder word ⌝ }
@@ -92,7 +101,7 @@ fn alloc_word(f: AllocCtl, status: u64) -> u64
     }.pack()
 }
 
-// Whether the registers hold only their fields, with BUSY 0.
+// Whether alloc_ctl and bw_alloc hold only their fields, with BUSY 0.
 pub fn registers_ok(setup: Setup, ctl: u64, bw: u64) -> bool
     ensures { λ r. ⌜ r ≡ registersOk (setupOf setup) (allocation ctl bw []) ⌝ }
 {

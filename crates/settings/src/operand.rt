@@ -1,6 +1,7 @@
 // The operand rules of CONFIG_LIMIT over the configured table.
 use crate::is_holder;
 use crate::is_sharer;
+use crate::place;
 use crate::reserved_blocks;
 use fields::BwAlloc;
 use setup::Setup;
@@ -9,19 +10,11 @@ use tables::word32;
 ghost use mathlib.Core.Path.{_≡_};
 ghost use Prim.Native.Nat.{_<_};
 ghost use Rattle.tables.specs.Below.{anyBelow};
-ghost use Rattle.access.specs.Pairs.{pair, wordAt};
+ghost use Rattle.access.specs.Pairs.{wordAt};
 ghost use Rattle.bandwidth_model.specs.Rules.{badHolder, shares, badSharer, badOperand};
 ghost use Rattle.bandwidth_model.specs.Facts.{Ranges};
 ghost use Rattle.setup.specs.View.{setupOf};
 ghost use Rattle.settings.specs.View.{Ready};
-
-// The place of a pair, which may lie outside the table.
-pub fn place(setup: Setup, rcid: u64, at: u64) -> usize
-    requires { ⌜ Ranges (setupOf setup) × ((rcid < 4096) × (at < 8)) ⌝ }
-    ensures { λ r. ⌜ r ≡ pair (setup .na) rcid at ⌝ }
-{
-    (rcid * setup.na + at) as usize
-}
 
 // The word of a pair.
 pub fn word_at(setup: Setup, table: &[u32], rcid: u64, at: u64) -> u64

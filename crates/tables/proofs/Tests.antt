@@ -1,9 +1,10 @@
 -- Tests and choices: by cases, and the facts that a passed or failed test holds.
 use mathlib.Core.Path.{_≡_, refl, sym, subst}
 use mathlib.Core.Bool.{Bool, true, false, not, _&&_, _||_, cond}
-use Prim.Native.Nat.{ℕ, suc}
+use Prim.Native.Nat.{ℕ, suc, _≤_}
 use native.Mathlib.Nat.{suc-ne-zero}
-use lib.Dec.{T, T-not, not-T, eqb, eqb→eq, eqb-refl}
+use lib.Dec.{T, T-not, not-T, leb, leb→le, le→leb, eqb, eqb→eq, eqb-refl}
+use Rattle.tables.specs.Below.{between}
 
 -- a proof by cases on a test: P is the goal with the test abstracted
 pub cases {ℓ} : (P : Bool → Type ℓ) (b : Bool) → (T b → P true) → (T (not b) → P false) → P b
@@ -60,6 +61,9 @@ pub not-not : (b : Bool) → T (not (not b)) → T b
 not-not true t = tt
 not-not false t = t
 
+pub not-not-in : (b : Bool) → T b → T (not (not b))
+not-not-in b t = not-in (not b) (not-both b t)
+
 pub is-true : (b : Bool) → T b → b ≡ true
 is-true true t = refl
 is-true false t = absurd t
@@ -71,6 +75,14 @@ is-false false t = refl
 pub of-true : {b : Bool} → b ≡ true → T b
 of-true e = subst T (sym e) tt
 
+pub of-false : {b : Bool} → b ≡ false → T (not b)
+of-false e = subst (λ (x : Bool). T (not x)) (sym e) tt
+
+-- two tests that pass together are one
+pub same-test : (a b : Bool) → (T a → T b) → (T b → T a) → a ≡ b
+same-test true b f g = sym (is-true b (f tt))
+same-test false b f g = sym (is-false b (not-in b g))
+
 pub eqb-in : (a b : ℕ) → a ≡ b → T (eqb a b)
 eqb-in a b e = subst (λ (k : ℕ). T (eqb a k)) e (eqb-refl a)
 
@@ -79,6 +91,20 @@ neqb a b t e = T-not (eqb a b) t (eqb-in a b e)
 
 pub neqb-in : (a b : ℕ) → (a ≡ b → ⊥) → T (not (eqb a b))
 neqb-in a b f = not-T (eqb a b) (λ t. f (eqb→eq a b t))
+
+-- a number in a range
+module _ (l x h : ℕ) where
+  pub between-low : T (between l x h) → l ≤ x
+  unfolding between
+  between-low t = leb→le l x (and-l (leb l x) (leb x h) t)
+
+  pub between-high : T (between l x h) → x ≤ h
+  unfolding between
+  between-high t = leb→le x h (and-r (leb l x) (leb x h) t)
+
+  pub between-in : l ≤ x → x ≤ h → T (between l x h)
+  unfolding between
+  between-in a b = and-in (leb l x) (leb x h) (le→leb l x a) (le→leb x h b)
 
 -- a choice where its test is known, and between equals
 module _ {ℓ} {A : Type ℓ} (b : Bool) where

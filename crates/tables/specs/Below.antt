@@ -1,8 +1,9 @@
--- Sums and tests over the indexes below a number and over the entries of a table; a contract that carries its bound.
+-- Sums and tests over the indexes below a number and over the entries of a table; ranges; a contract that carries its bound.
 use Prim.Native.Nat.{ℕ, zero, suc, _+_, _≤_}
 use mathlib.Core.Path.{_≡_}
 use mathlib.Core.Bool.{Bool, true, false, _&&_, _||_}
 use mathlib.Core.List.{List}
+use lib.Dec.{leb}
 use lib.ListN.{length, getD}
 
 -- f 0 + .. + f (n - 1)
@@ -27,6 +28,9 @@ sumOf f t = sumBelow (length t) (λ i. f (getD t i 0))
 -- p holds of every entry of t
 unfoldable pub allOf : (ℕ → Bool) → List ℕ → Bool
 allOf p t = allBelow (length t) (λ i. p (getD t i 0))
+
+unfoldable pub between : ℕ → ℕ → ℕ → Bool
+between low x high = leb low x && leb x high
 
 -- r is x, and at most m
 pub record Small (x m r : ℕ) : Type 0 where

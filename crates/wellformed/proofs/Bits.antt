@@ -12,15 +12,9 @@ use lib.Bits.{bitOr, or-add-and, and-le-l, and-le-r, or-step, or-shr, or-zero-l}
 use lib.Pow.{pow-lt, pow-mono, pow-pos, pow-add, shl-shr, shr-shr}
 use Rattle.fields.proofs.Laws.{field-mod}
 use Rattle.tables.specs.Below.{allBelow}
-use Rattle.tables.proofs.Tests.{cases, is-true, eqb-in, neqb}
+use Rattle.tables.proofs.Tests.{cases, eqb-in, neqb, same-test}
 use Rattle.tables.proofs.Laws.{all-at, all-in}
 use Rattle.wellformed.specs.Bits.{gather, lacking}
-
--- two tests that imply each other
-pub same-test : (a b : Bool) → (T a → T b) → (T b → T a) → a ≡ b
-same-test true b f g = sym (is-true b (f tt))
-same-test false true f g = absurd (g tt)
-same-test false false f g = refl
 
 -- ---- unions
 

@@ -13,11 +13,11 @@ use Rattle.fields.specs.Layout.{get, kept}
 use Rattle.fields.specs.Registers as reg
 use Rattle.fields.proofs.Registers.{bandwidthCounter-kept}
 use Rattle.tables.specs.Below.{allBelow}
-use Rattle.tables.proofs.Tests.{cases, and-l, and-r, and-in, or-else, or-l, or-r, eqb-in, neqb, neqb-in, cond-yes, cond-no}
+use Rattle.tables.proofs.Tests.{cases, and-l, and-r, and-in, or-else, or-l, or-r, eqb-in, neqb, neqb-in, cond-yes, cond-no, same-test}
 use Rattle.monitor.specs.Monitor.{counterOk, settingOk}
 use Rattle.monitor.specs.Bytes.{lastEvent}
 use Rattle.wellformed.specs.Bits.{gather}
-use Rattle.wellformed.proofs.Bits.{same-test, none-gathered, none-bad}
+use Rattle.wellformed.proofs.Bits.{none-gathered, none-bad}
 
 -- ---- counters
 

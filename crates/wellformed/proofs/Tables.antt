@@ -9,7 +9,7 @@ use lib.Dec.{T, eqb, eqb→eq, leb, leb→le, le→leb}
 use lib.ListN.{length, getD}
 use Rattle.fields.specs.Registers as reg
 use Rattle.tables.specs.Below.{sumBelow, sumOf, allBelow}
-use Rattle.tables.proofs.Tests.{and-l, and-r, and-in, eqb-in}
+use Rattle.tables.proofs.Tests.{and-l, and-r, and-in, eqb-in, same-test}
 use Rattle.tables.proofs.Laws.{sum-same, all-same}
 use Rattle.access.specs.Pairs.{pair, wordAt}
 use Rattle.access.proofs.Pairs.{pair-inside, pair-of}
@@ -22,7 +22,7 @@ use Rattle.bandwidth_model.proofs.Words.{shared-0, blocks-0, shared-1, not-0, s
 use Rattle.bandwidth_model.proofs.Settings.{View, unset, holds, follows, TableFacts, table-ok, table-facts}
 use Rattle.wellformed.specs.Bits.{gather, formAt, blocksAt, markAt, rowAt, overAt, Looked}
 use Rattle.wellformed.specs.Tables.{tablesOk}
-use Rattle.wellformed.proofs.Bits.{same-test, gather-zero, zero-gather, none-bad}
+use Rattle.wellformed.proofs.Bits.{gather-zero, zero-gather, none-bad}
 use Rattle.wellformed.proofs.Forms as forms
 use Rattle.wellformed.proofs.Forms.{Form, low-blocks, formed, form-of, form-reserved}
 use Rattle.wellformed.proofs.Marks.{Led, row-held, held-row}

@@ -7,7 +7,6 @@ ghost use Rattle.tables.specs.Below.{allBelow};
 ghost use Rattle.monitor.specs.Monitor.{settingOk};
 ghost use Rattle.monitor.specs.Bytes.{lastEvent};
 
-// x where b holds, else y.
 fn pick16(b: bool, x: u16, y: u16) -> u16
     ensures { λ r. ⌜ r ≡ cond b x y ⌝ }
 {

@@ -5,7 +5,6 @@ ghost use Prim.Native.Nat.{_<_, _≤_};
 ghost use lib.ListN.{length};
 ghost use Rattle.wellformed.specs.Bits.{AtMost};
 
-// x where b holds, else y.
 pub fn pick(b: bool, x: u32, y: u32) -> u32
     ensures { λ r. ⌜ r ≡ cond b x y ⌝ }
 {
@@ -20,7 +19,7 @@ pub fn part_end(from: usize, step: usize, end: usize) -> usize
     if end - from < step { end } else { from + step }
 }
 
-// Every bit of the words from lo to below hi.
+// A number that no word from lo to below hi is above: all their bits.
 pub fn union_part(t: &[u32], lo: usize, hi: usize) -> u32
     requires { ⌜ (lo ≤ hi) × (hi ≤ length (now t)) ⌝ }
     ensures { λ r. ⌜ AtMost (now (t .entry)) lo hi r ⌝ }

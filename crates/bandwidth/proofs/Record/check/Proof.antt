@@ -1,9 +1,9 @@
 -- `bandwidth::Record::check` meets its contract.
 use mathlib.Core.Path.{sym, _∙_}
 use borrow.Author.Needs.{needs}
-use Rattle.tables.proofs.Tests.{of-true}
+use Rattle.tables.proofs.Tests.{of-true, of-false}
 use Rattle.bandwidth_model.proofs.Setup.{ranges}
-use Rattle.bandwidth.proofs.Checks.{fails, sized, check-1, check-2, check-3}
+use Rattle.bandwidth.proofs.Checks.{sized, check-1, check-2, check-3}
 use Rattle.bandwidth.proofs.Record.check.Statement.{statement}
 use Rattle.bandwidth.proofs.Record.check.Tie as tie
 
@@ -28,14 +28,14 @@ returns c =
 returns-2 : tie.Need-returns-2
 returns-2 c =
     check-3 _ (of-true (sym (c .before .before .before .before .before .before .in-range .ensures) ∙ c .before .before .before .before .before .if1 .taken)) (of-true (sym (c .before .before .before .before .lengths-ok .ensures) ∙ c .before .before .before .if2 .taken))
-    (fails _ (sym (c .before .before .well-formed .ensures .is) ∙ c .if3 .left))
+    (of-false (sym (c .before .before .well-formed .ensures .is) ∙ c .if3 .left))
 
 returns-3 : tie.Need-returns-3
 returns-3 c =
-    check-2 _ (of-true (sym (c .before .before .before .in-range .ensures) ∙ c .before .before .if1 .taken)) (fails _ (sym (c .before .lengths-ok .ensures) ∙ c .if2 .left))
+    check-2 _ (of-true (sym (c .before .before .before .in-range .ensures) ∙ c .before .before .if1 .taken)) (of-false (sym (c .before .lengths-ok .ensures) ∙ c .if2 .left))
 
 returns-4 : tie.Need-returns-4
-returns-4 c = check-1 _ (fails _ (sym (c .before .in-range .ensures) ∙ c .if1 .left))
+returns-4 c = check-1 _ (of-false (sym (c .before .in-range .ensures) ∙ c .if1 .left))
 
 pub check-spec : {M : Type 1} → statement M
 check-spec = tie.close (tie.spec (λ c κs. search needs) lengths-ok-requires well-formed-requires returns returns-2 returns-3 returns-4)

@@ -1,8 +1,7 @@
 -- `bandwidth::Record::serve` meets its contract.
-use mathlib.Core.Path.{_≡_, ap, _∙_}
 use borrow.Author.Needs.{needs}
 use Rattle.access.proofs.Pairs.{known-lt}
-use Rattle.grants.specs.View.{usage, holderFrom, grantFrom}
+use Rattle.grants.specs.View.{usage}
 use Rattle.grants.proofs.Room.{grant-fits}
 use Rattle.setup.specs.View.{setupOf}
 use Rattle.bandwidth.proofs.Checks.{active-facts, usage-formed}

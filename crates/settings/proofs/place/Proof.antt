@@ -1,10 +1,10 @@
--- `settings::operand::place` meets its contract.
+-- `settings::place` meets its contract.
 use mathlib.Core.Path.{refl}
 use native.Mathlib.Omega.{arith}
 use Rattle.access.specs.Pairs.{pair}
 use Rattle.settings.proofs.Sums.{row-le}
-use Rattle.settings.proofs.operand.place.Statement.{statement}
-use Rattle.settings.proofs.operand.place.Tie as tie
+use Rattle.settings.proofs.place.Statement.{statement}
+use Rattle.settings.proofs.place.Tie as tie
 
 mul-result : tie.Need-mul-result
 mul-result c = let p = c .before .pre in record { fits = omega (arith, row-le (p .0 .na-high) (p .1 .0)) }
