@@ -39,6 +39,10 @@ pub all-fail : (cs : List Check) (o : ℕ) → Fails cs → first cs o ≡ o
 all-fail [] o f = refl
 all-fail (c ∷ cs) o f = rw (cond-no (c .holds) (c .number) (first cs o) (f .0)) (all-fail cs o (f .1))
 
+-- where no condition holds, what comes after decides
+pub first-passes : (cs : List Check) (o : ℕ) → T (without 0 cs) → 0 ≡ first cs 0 → first cs o ≡ o
+first-passes cs o t e = all-fail cs o (none-holds 0 cs 0 t (sym e) .0)
+
 -- a condition that holds decides, whatever comes after
 pub first-other : (cs : List Check) (n o : ℕ) → 0 < n → first cs 0 ≡ n → first cs o ≡ n
 first-other [] n o h e = absurd (omega arith)

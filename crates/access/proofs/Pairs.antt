@@ -3,7 +3,7 @@ use mathlib.Core.Path.{_≡_, refl, sym, ap, _∙_}
 use mathlib.Core.Bool.{Bool, true, false, cond}
 use mathlib.Core.List.{List}
 use Prim.Native.Nat.{ℕ, zero, suc, _+_, _-_, _*_, _/_, _%_, _≤_, _<_}
-use native.Mathlib.Nat.{mul-le-mul-right, mul-add-mod-self-right, mod-eq-of-lt, mul-add-div-right, div-eq-of-lt, div-lt-iff-lt-mul, div-add-mod', mod-lt, mul-zero, zero-lt-suc}
+use native.Mathlib.Nat.{mul-le-mul, mul-le-mul-right, mul-add-mod-self-right, mod-eq-of-lt, mul-add-div-right, div-eq-of-lt, div-lt-iff-lt-mul, div-add-mod', mod-lt, mul-zero, zero-lt-suc}
 use native.Mathlib.Omega.{arith}
 use lib.Dec.{T, ltb, ltb→lt, lt→ltb}
 use lib.ListN.{length, set}
@@ -17,6 +17,10 @@ rows (suc m) n h =
     let one : suc m * n ≡ n + m * n = omega arith in
     let less : m ≡ suc m - 1 = omega arith in
     one ∙ ap (λ (k : ℕ). n + k * n) less
+
+-- 4095 * 8, for any RCID that alloc_ctl holds
+pub row-le : {na rcid : ℕ} → na ≤ 8 → rcid < 4096 → rcid * na ≤ 32760
+row-le {rcid = rcid} a r = let h : rcid ≤ 4095 = omega arith in mul-le-mul h a
 
 pub pair-inside : (nr na rcid at : ℕ) → rcid < nr → at < na → pair na rcid at < nr * na
 unfolding pair

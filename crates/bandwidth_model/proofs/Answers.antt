@@ -6,7 +6,6 @@ use Prim.Native.Nat.{ℕ, _%_, _*_, _+_, _^_}
 use native.Mathlib.Omega.{arith}
 use lib.Dec.{T, leb, eqb, le→leb}
 use lib.ListN.{length, getD}
-use Rattle.fields.specs.Layout.{get}
 use Rattle.fields.specs.Registers as reg
 use Rattle.access.specs.Access as access
 use Rattle.access.specs.Checks.{first}
@@ -15,15 +14,16 @@ use Rattle.tables.proofs.Laws.{all-in}
 use Rattle.tables.proofs.Tests.{and-in, eqb-in}
 use Rattle.monitor.specs.Monitor.{monitorOk}
 use Rattle.monitor.specs.Bytes.{lastEvent}
-use Rattle.bandwidth_model.specs.Rules.{Setup, setupOk, pairs, reserved, bwWord, poolOf, allocStatus}
+use Rattle.bandwidth_model.specs.Rules.{Setup, setupOk, pairs, reserved, bwWord, poolOf, badLimit}
 use Rattle.bandwidth_model.specs.Calls.{Call, reset, read, write, request, endWindow, done}
-use Rattle.bandwidth_model.specs.Model.{State, allocWord, tableOk, usageOk, registersOk, wellFormed, lengthsOk, argumentChecks, setupChecks, checks, refusal, step}
+use Rattle.allocation.specs.Allocation.{controlOk}
+use Rattle.allocation.proofs.Operations.{status-rows}
+use Rattle.bandwidth_model.specs.Model.{State, tableOk, usageOk, registersOk, wellFormed, lengthsOk, argumentChecks, setupChecks, checks, refusal, step}
 use Rattle.bandwidth_model.specs.Ledger.{Window, Ledger}
 use Rattle.bandwidth_model.specs.Runs.{stateAfter, ledgerAfter, answerAfter}
 use Rattle.bandwidth_model.specs.Claim.{isReset}
 use Rattle.bandwidth_model.specs.Answers.{Answered, Answering, Statuses}
 use Rattle.bandwidth_model.proofs.Settings.{table-ok}
-use Rattle.access.proofs.Checks.{rows}
 use Rattle.monitor.proofs.Monitor.{monitor-ok}
 use Rattle.monitor.proofs.Operations.{monStatus-rows}
 use Rattle.bandwidth_model.proofs.Window.{used-in}
@@ -46,11 +46,11 @@ module _ {s : State} {asked granted : List ℕ} {sum : ℕ} {closed : List Windo
       (le→leb (u .pool) (poolOf su (u .active)) (g .spent .pool-in))
 
   registers-ok : T (registersOk (s .setup) (s .alloc))
-  unfolding registersOk
+  unfolding registersOk controlOk
   registers-ok =
       let a = s .alloc in
-      let w = allocWord (s .setup) (a .ctl) (get reg.status (a .ctl)) in
-      and-in (eqb (a .ctl) w) (eqb (a .bw) (bwWord (a .bw))) (eqb-in (a .ctl) w (g .ctl)) (eqb-in (a .bw) (bwWord (a .bw)) (g .bw))
+      let ctl = controlOk (s .setup .na) (a .ctl) in
+      and-in ctl (eqb (a .bw) (bwWord (a .bw))) (eqb-in _ _ (g .ctl)) (eqb-in (a .bw) (bwWord (a .bw)) (g .bw))
 
   well-formed : T (wellFormed s)
   unfolding wellFormed
@@ -142,5 +142,5 @@ pub answering : Answering
 answering = record { always = λ s su cs e. answered s su e cs }
 
 pub statuses : Statuses
-unfolding allocStatus
-statuses = record { alloc = λ su configured bw v. rows _ _ _ _; monitor = λ na nm v. monStatus-rows na nm lastEvent v }
+unfolding badLimit
+statuses = record { alloc = λ su configured bw v. status-rows (su .nr) (su .na) (badLimit su configured bw v) v; monitor = λ na nm v. monStatus-rows na nm lastEvent v }

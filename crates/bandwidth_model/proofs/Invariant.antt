@@ -8,18 +8,17 @@ use native.Mathlib.Nat.{add-zero}
 use native.Mathlib.Omega.{arith}
 use lib.Dec.{T, leb, eqb, eqb→eq, nleb→lt}
 use lib.ListN.{length, getD, set, replicate, length-replicate}
-use Rattle.fields.specs.Layout.{get}
 use Rattle.fields.specs.Registers as reg
-use Rattle.fields.specs.Registers.{heldAt}
 use Rattle.access.specs.Access as access
 use Rattle.access.specs.Pairs.{knownAt}
 use Rattle.access.specs.Checks.{first}
-use Rattle.tables.proofs.Tests.{cases, nor-l, not-not, none-test, none-rest, cond-same}
+use Rattle.tables.proofs.Tests.{cases, nor-l, not-not, none-test, none-rest}
 use Rattle.monitor.specs.Monitor.{cleared, writeMon, counted}
 use Rattle.monitor.specs.Bytes.{lastEvent, countsRequest, added}
-use Rattle.bandwidth_model.specs.Rules.{Setup, setupOk, pairs, weightOf, isHolder, bwWord, resetTable, opOf, rcidOf, atOf, allocStatus, Holder, nobody, held, holderOf, poolOf}
+use Rattle.allocation.specs.Allocation.{statusOf, allocWord}
+use Rattle.bandwidth_model.specs.Rules.{Setup, setupOk, pairs, weightOf, isHolder, bwWord, resetTable, allocStatus, Holder, nobody, held, holderOf, poolOf, badLimit}
 use Rattle.bandwidth_model.specs.Calls.{Call, reset, read, write, request, endWindow}
-use Rattle.bandwidth_model.specs.Model.{State, Usage, allocWord, opened, afterReset, afterWindow, writeAlloc, writeBw, withAlloc, withMonitor, writeAt, fromReservation, fromPool, grantOf, grantSum, spend, serve, serveFrom, requested, perform, lengthsOk, wellFormed, setupChecks, stateChecks, argumentChecks, checks, refusal, refuse, step}
+use Rattle.bandwidth_model.specs.Model.{State, Usage, opened, afterReset, afterWindow, writeAlloc, writeBw, withAlloc, withMonitor, writeAt, fromReservation, fromPool, grantOf, grantSum, spend, serve, serveFrom, requested, perform, lengthsOk, wellFormed, setupChecks, stateChecks, argumentChecks, checks, refusal, refuse, step}
 use Rattle.bandwidth_model.specs.Ledger.{Window, Ledger, openWindow, accepted, bytesOf, noteGrant, noteRequest, noteAlloc, noteBw, noteWrite, noteEnd, startedAfter, noteCall, note}
 use Rattle.bandwidth_model.specs.Claim.{Fair}
 use Rattle.bandwidth_model.proofs.Words.{bw-0, bw-bw}
@@ -30,7 +29,7 @@ use Rattle.bandwidth_model.proofs.ResetTable.{reset-table}
 use Rattle.bandwidth_model.proofs.Holders.{Holds, found-holds, holder-inside}
 use Rattle.monitor.proofs.Counters.{added-ok}
 use Rattle.monitor.proofs.Monitor.{MonitorFacts, cleared-facts, write-facts, write-lengths, counted-facts, counted-lengths}
-use Rattle.bandwidth_model.proofs.Control.{alloc-own, status-lt}
+use Rattle.allocation.proofs.Operations.{alloc-own, alloc-0, status-lt}
 use Rattle.access.proofs.Pairs.{known-lt}
 use Rattle.bandwidth_model.proofs.Window.{Spent, spent-none, spent-more, fair}
 
@@ -44,7 +43,7 @@ pub record Good (s : State) (asked granted : List ℕ) (sum : ℕ) (closed : Lis
   pub setup : T (setupOk (s .setup))
   pub configured : TableFacts (s .setup) (s .alloc .configured)
   pub active : TableFacts (s .setup) (s .usage .active)
-  pub ctl : s .alloc .ctl ≡ allocWord (s .setup) (s .alloc .ctl) (get reg.status (s .alloc .ctl))
+  pub ctl : s .alloc .ctl ≡ allocWord (s .setup .na) (s .alloc .ctl) (statusOf (s .alloc .ctl))
   pub bw : s .alloc .bw ≡ bwWord (s .alloc .bw)
   pub spent : SpentBy s asked granted sum
   pub monitor : Monitored s
@@ -73,10 +72,6 @@ kept {s} {asked} {granted} {sum} {closed} g = record { asked = asked; granted = 
 
 -- ---- reset
 
-alloc-0 : (su : Setup) → _≡_ {A = ℕ} 0 (allocWord su 0 (get reg.status 0))
-unfolding allocWord rcidOf atOf opOf heldAt
-alloc-0 su = rw (cond-same {A = ℕ} (eqb (su .na) 1) 0) refl
-
 pub reset-good : (su : Setup) (closed : List Window) → T (setupOk su) → ((w : Window) → List·Memᴰ w closed → Fair w)
     → Good (afterReset su) (replicate (pairs su) 0) (replicate (pairs su) 0) 0 closed
 unfolding afterReset opened cleared
@@ -86,7 +81,7 @@ reset-good su closed t p =
       setup = t;
       configured = table;
       active = table;
-      ctl = alloc-0 su;
+      ctl = alloc-0 (su .na);
       bw = sym bw-0;
       spent = spent-none su (resetTable su);
       monitor = cleared-facts reg.bandwidthCounter reg.bandwidthCtr (su .na) (su .nm) lastEvent (su .w);
@@ -166,7 +161,7 @@ module _ {s : State} {asked granted : List ℕ} {sum : ℕ} {closed : List Windo
         setup = g .setup;
         configured = configured-after (s .setup) conf bw v (g .configured);
         active = g .active;
-        ctl = alloc-own (s .setup) v (allocStatus (s .setup) conf bw v) (status-lt (s .setup) conf bw v);
+        ctl = alloc-own (s .setup .na) v (allocStatus (s .setup) conf bw v) (status-lt (s .setup .nr) (s .setup .na) (badLimit (s .setup) conf bw v) v);
         bw = bw-after (s .setup) conf bw v (g .configured) (g .bw);
         spent = g .spent;
         monitor = g .monitor;

@@ -1,23 +1,22 @@
 -- A setting stays until its pair is set again or a reset comes, and reads back.
-use mathlib.Core.Path.{_≡_, refl, sym, subst, subst⁻¹, _∙_}
+use mathlib.Core.Path.{_≡_, refl, subst, _∙_}
 use mathlib.Core.Bool.{Bool, true, false, not, cond, _&&_, _||_}
 use mathlib.Core.List.{List, [], _∷_}
 use Prim.Native.Nat.{ℕ, _<_}
 use lib.Dec.{T, eqb}
-use lib.ListN.{set}
 use Rattle.access.specs.Access as access
-use Rattle.access.specs.Pairs.{pair, wordAt}
-use Rattle.tables.proofs.Tests.{cases, and-l, and-r, and-in, nor-l, nor-r, not-both, eqb-in, cond-yes, nand-r}
+use Rattle.access.specs.Pairs.{wordAt}
+use Rattle.tables.proofs.Tests.{cases, and-l, and-r, nor-l, nor-r, cond-yes, nand-r}
 use Rattle.monitor.specs.Monitor.{writeMon}
 use Rattle.monitor.specs.Bytes.{lastEvent}
-use Rattle.bandwidth_model.specs.Rules.{Setup, stored, configLimit, rcidOf, atOf, allocDone, configuredAfter}
+use Rattle.allocation.specs.Allocation.{configLimit, rcidOf, atOf}
+use Rattle.bandwidth_model.specs.Rules.{Setup, stored, allocDone, badLimit}
 use Rattle.bandwidth_model.specs.Calls.{Call, reset, read, write, request, endWindow}
 use Rattle.bandwidth_model.specs.Model.{State, afterWindow, writeAlloc, writeBw, withAlloc, withMonitor, writeAt, serve, serveFrom, requested, perform, refusal, refuse, step}
 use Rattle.bandwidth_model.specs.Ledger.{Event, Window, Ledger, accepted, note}
 use Rattle.bandwidth_model.specs.Claim.{Setting, settingsBy, settings, setsPair, isReset, touches, untouched}
 use Rattle.bandwidth_model.specs.Runs.{after, events}
-use Rattle.bandwidth_model.proofs.Accepted.{accepted-limit}
-use Rattle.access.proofs.Pairs.{pair-at, pair-rcid, word-set-other}
+use Rattle.allocation.proofs.Operations.{table-other}
 use Rattle.bandwidth_model.proofs.Invariant.{Good, ledgerBy, Inv, inv-step}
 use Rattle.bandwidth_model.proofs.Steps.{perform-accepted}
 
@@ -27,23 +26,8 @@ pub record Same (s s′ : State) (rcid at : ℕ) : Type 0 where
   pub word : wordAt (s .setup .na) (s′ .alloc .configured) rcid at ≡ wordAt (s .setup .na) (s .alloc .configured) rcid at
   pub setup : s′ .setup ≡ s .setup
 
-same-table : (su : Setup) (conf : List ℕ) (bw v rcid at : ℕ) → at < su .na → T (not (allocDone su conf bw configLimit v && eqb (rcidOf v) rcid && eqb (atOf su v) at))
-    → wordAt (su .na) (configuredAfter su conf bw v) rcid at ≡ wordAt (su .na) conf rcid at
-unfolding configuredAfter
-same-table su conf bw v rcid at h = by (allocDone su conf bw configLimit v) refl
-  where
-    by : (x : Bool) → allocDone su conf bw configLimit v ≡ x → T (not (x && eqb (rcidOf v) rcid && eqb (atOf su v) at))
-        → wordAt (su .na) (cond x (set conf (pair (su .na) (rcidOf v) (atOf su v)) (stored bw)) conf) rcid at ≡ wordAt (su .na) conf rcid at
-    by true e n =
-        let hv = accepted-limit su conf bw v (subst⁻¹ T e tt) .at-low in
-        word-set-other (su .na) conf (pair (su .na) (rcidOf v) (atOf su v)) (stored bw) rcid at
-        (λ q. not-both (eqb (rcidOf v) rcid && eqb (atOf su v) at)
-        (and-in (eqb (rcidOf v) rcid) (eqb (atOf su v) at)
-        (eqb-in (rcidOf v) rcid (sym (pair-rcid (su .na) rcid at (rcidOf v) (atOf su v) h hv q))) (eqb-in (atOf su v) at (sym (pair-at (su .na) rcid at (rcidOf v) (atOf su v) h hv q)))) n)
-    by false e n = refl
-
 same-write : (s : State) (offset v rcid at : ℕ) → at < s .setup .na
-    → T (not (eqb offset 24 && allocDone (s .setup) (s .alloc .configured) (s .alloc .bw) configLimit v && eqb (rcidOf v) rcid && eqb (atOf (s .setup) v) at))
+    → T (not (eqb offset 24 && allocDone (s .setup) (s .alloc .configured) (s .alloc .bw) configLimit v && eqb (rcidOf v) rcid && eqb (atOf (s .setup .na) v) at))
     → Same s (writeAt s offset v) rcid at
 unfolding writeAt withAlloc writeAlloc writeBw withMonitor
 same-write s offset v rcid at h =
@@ -51,8 +35,8 @@ same-write s offset v rcid at h =
     let a = withAlloc s (writeAlloc (s .setup) (s .alloc .bw) (s .alloc .configured) v) in
     let b = withAlloc s (writeBw (s .alloc) v) in
     let m = withMonitor s (writeMon (s .setup .na) (s .setup .nm) lastEvent (s .monitor) v) in
-    cases (λ x. T (not (x && done && eqb (rcidOf v) rcid && eqb (atOf (s .setup) v) at)) → Same s (cond x a (cond (eqb offset 32) b (cond (eqb offset 8) m s))) rcid at) (eqb offset 24)
-    (λ t n. record { word = same-table (s .setup) (s .alloc .configured) (s .alloc .bw) v rcid at h n; setup = refl })
+    cases (λ x. T (not (x && done && eqb (rcidOf v) rcid && eqb (atOf (s .setup .na) v) at)) → Same s (cond x a (cond (eqb offset 32) b (cond (eqb offset 8) m s))) rcid at) (eqb offset 24)
+    (λ t n. record { word = table-other (s .setup .nr) (s .setup .na) (badLimit (s .setup) (s .alloc .configured) (s .alloc .bw) v) v (s .alloc .configured) (stored (s .alloc .bw)) rcid at h n; setup = refl })
     (λ t n. cases (λ x. Same s (cond x b (cond (eqb offset 8) m s)) rcid at) (eqb offset 32)
     (λ t. record { word = refl; setup = refl })
     (λ t. cases (λ x. Same s (cond x m s) rcid at) (eqb offset 8) (λ t. record { word = refl; setup = refl }) (λ t. record { word = refl; setup = refl })))
@@ -71,7 +55,7 @@ module _ {s : State} {asked granted : List ℕ} {sum : ℕ} {closed : List Windo
   same-perform (read size offset) rcid at h i n = record { word = refl; setup = refl }
   same-perform (write size offset v) rcid at h i n =
       same-write s offset v rcid at h
-      (sets-one (eqb offset 24 && allocDone (s .setup) (s .alloc .configured) (s .alloc .bw) configLimit v) rcid at (record { rcid = rcidOf v; at = atOf (s .setup) v; word = stored (s .alloc .bw) }) n)
+      (sets-one (eqb offset 24 && allocDone (s .setup) (s .alloc .configured) (s .alloc .bw) configLimit v) rcid at (record { rcid = rcidOf v; at = atOf (s .setup .na) v; word = stored (s .alloc .bw) }) n)
   same-perform (request r m a k b) rcid at h i n = record { word = refl; setup = refl }
   same-perform endWindow rcid at h i n = record { word = refl; setup = refl }
 

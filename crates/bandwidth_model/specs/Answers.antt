@@ -7,7 +7,8 @@ use lib.Dec.{leb, eqb, T}
 use Rattle.access.specs.Checks.{first, Rows}
 use Rattle.monitor.specs.Monitor as mon
 use Rattle.monitor.specs.Bytes.{lastEvent}
-use Rattle.bandwidth_model.specs.Rules.{Setup, configLimit, validOp, opOf, rcidOf, atOf, badOperand, allocStatus}
+use Rattle.allocation.specs.Allocation.{configLimit, opOf, rcidOf, atOf, validOp}
+use Rattle.bandwidth_model.specs.Rules.{Setup, badOperand, allocStatus}
 use Rattle.bandwidth_model.specs.Calls.{Call, reset, refused, done}
 use Rattle.bandwidth_model.specs.Model.{State, setupChecks, argumentChecks, step}
 use Rattle.bandwidth_model.specs.Ledger.{accepted}
@@ -32,8 +33,8 @@ pub record Answering : Type 0 where
 -- each STATUS under its own condition and no other
 pub record Statuses : Type 0 where
   pub alloc : (su : Setup) (configured : List ℕ) (bw v : ℕ)
-      → Rows (not (validOp (opOf v))) (leb (su .nr) (rcidOf v)) (leb (su .na) (atOf su v))
-      (eqb (opOf v) configLimit && badOperand su configured (rcidOf v) (atOf su v) bw) (allocStatus su configured bw v)
+      → Rows (not (validOp (opOf v))) (leb (su .nr) (rcidOf v)) (leb (su .na) (atOf (su .na) v))
+      (eqb (opOf v) configLimit && badOperand su configured (rcidOf v) (atOf (su .na) v) bw) (allocStatus su configured bw v)
   pub monitor : (na nm v : ℕ)
       → Rows (not (mon.validOp (mon.opOf v))) (leb nm (mon.mcidOf v)) (eqb (mon.opOf v) mon.configEvent && not (mon.knownEvent lastEvent (mon.eventOf v)))
       (eqb (mon.opOf v) mon.configEvent && eqb (mon.atvOf na v) 1 && leb na (mon.atOf na v)) (mon.monStatus na nm lastEvent v)

@@ -7,7 +7,8 @@ use lib.Dec.{eqb, T}
 use lib.ListN.{getD}
 use Rattle.access.specs.Access as access
 use Rattle.access.specs.Pairs.{pair, wordAt}
-use Rattle.bandwidth_model.specs.Rules.{Setup, rbwbOf, weightOf, stored, isHolder, total, configLimit, readLimit, opOf, rcidOf, atOf, allocDone, poolOf}
+use Rattle.allocation.specs.Allocation.{configLimit, readLimit, opOf, rcidOf, atOf}
+use Rattle.bandwidth_model.specs.Rules.{Setup, rbwbOf, weightOf, stored, isHolder, total, allocDone, poolOf}
 use Rattle.bandwidth_model.specs.Calls.{Call, reset, read, write, request, endWindow, done, value}
 use Rattle.bandwidth_model.specs.Model.{State, step}
 use Rattle.bandwidth_model.specs.Ledger.{Event, Window, Ledger, accepted, note}
@@ -45,7 +46,7 @@ settingsBy l (reset su) = []
 settingsBy l (read size offset) = []
 settingsBy l (write size offset v) =
     cond (access.writesLow offset access.allocCtl && allocDone (l .setup) (l .configured) (l .bw) configLimit v)
-    (record { rcid = rcidOf v; at = atOf (l .setup) v; word = stored (l .bw) } ∷ []) []
+    (record { rcid = rcidOf v; at = atOf (l .setup .na) v; word = stored (l .bw) } ∷ []) []
 settingsBy l (request rcid mcid at kind bytes) = []
 settingsBy l endWindow = []
 
@@ -102,7 +103,7 @@ pub record Claim (s : State) (su : Setup) (cs : List Call) : Type 0 where
   pub readBack : (before between after : List Call) (c : Call) (p : Setting) (size v size′ x : ℕ)
       → cs ≡ before ++ c ∷ between ++ write size (8 * access.allocCtl) v ∷ read size′ (8 * access.operand) ∷ after
       → Stands s su before between c p
-      → opOf v ≡ readLimit → rcidOf v ≡ p .rcid → atOf (ledgerAfter s su before .setup) v ≡ p .at
+      → opOf v ≡ readLimit → rcidOf v ≡ p .rcid → atOf (ledgerAfter s su before .setup .na) v ≡ p .at
       → T (accepted (answerAfter s su (before ++ c ∷ between) (write size (8 * access.allocCtl) v)))
       → answerAfter s su (before ++ c ∷ between ++ write size (8 * access.allocCtl) v ∷ []) (read size′ (8 * access.operand)) ≡ value x
       → x ≡ p .word

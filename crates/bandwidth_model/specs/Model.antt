@@ -4,7 +4,7 @@ use mathlib.Core.List.{List, [], _∷_, _++_}
 use Prim.Native.Nat.{ℕ, _+_, _-_, _*_, min}
 use lib.Dec.{leb, ltb, eqb}
 use lib.ListN.{length, getD, set, take, drop, replicate}
-use Rattle.fields.specs.Layout.{get, pack}
+use Rattle.fields.specs.Layout.{pack}
 use Rattle.fields.specs.Registers as reg
 use Rattle.tables.specs.Below.{allBelow}
 use Rattle.access.specs.Checks.{Check, _gives_, first}
@@ -12,7 +12,8 @@ use Rattle.access.specs.Access as access
 use Rattle.access.specs.Pairs.{pair, wordAt, knownAt}
 use Rattle.monitor.specs.Monitor.{Monitor, cleared, writeMon, counted, monitorOk}
 use Rattle.monitor.specs.Bytes.{lastEvent, countsRequest, added}
-use Rattle.bandwidth_model.specs.Rules.{Setup, setupOk, pairs, weightOf, bwWord, stored, reserved, resetTable, opOf, rcidOf, atOf, badOperand, allocStatus, configuredAfter, bwAfter, Holder, nobody, held, holderOf, poolOf}
+use Rattle.allocation.specs.Allocation.{allocWord, controlOk}
+use Rattle.bandwidth_model.specs.Rules.{Setup, setupOk, pairs, weightOf, bwWord, stored, reserved, resetTable, badOperand, allocStatus, configuredAfter, bwAfter, Holder, nobody, held, holderOf, poolOf}
 use Rattle.bandwidth_model.specs.Calls.{Call, reset, read, write, request, endWindow, Answer, refused, done, value, granted}
 
 -- ---- the state
@@ -42,10 +43,6 @@ pub record Outcome : Type 0 where
 
 -- ---- well formed (document 01: lawful)
 
--- alloc_ctl after the write of v ended with a STATUS; BUSY reads 0
-unfoldable pub allocWord : Setup → ℕ → ℕ → ℕ
-allocWord su v status = pack reg.allocCtl (0 ∷ status ∷ rcidOf v ∷ atOf su v ∷ opOf v ∷ [])
-
 -- a pair is unset, or its word is in stored form and obeys the operand rules
 unfoldable pub pairOk : Setup → List ℕ → ℕ → ℕ → Bool
 pairOk su table rcid at =
@@ -63,7 +60,7 @@ usageOk su u =
 
 -- alloc_ctl and bw_alloc hold only their fields, with BUSY 0
 unfoldable pub registersOk : Setup → Allocation → Bool
-registersOk su a = eqb (a .ctl) (allocWord su (a .ctl) (get reg.status (a .ctl))) && eqb (a .bw) (bwWord (a .bw))
+registersOk su a = controlOk (su .na) (a .ctl) && eqb (a .bw) (bwWord (a .bw))
 
 unfoldable pub wellFormed : State → Bool
 wellFormed s =
@@ -141,7 +138,7 @@ readAt s size offset = access.part size offset (register s (access.registerAt of
 unfoldable pub writeAlloc : Setup → ℕ → List ℕ → ℕ → Allocation
 writeAlloc su bw configured v =
     record {
-      ctl = allocWord su v (allocStatus su configured bw v);
+      ctl = allocWord (su .na) v (allocStatus su configured bw v);
       bw = bwAfter su configured bw v;
       configured = configuredAfter su configured bw v;
     }

@@ -5,11 +5,10 @@ use mathlib.Core.List.{List}
 use native.Mathlib.Omega.{arith}
 use lib.Dec.{T, eqb}
 use lib.ListN.{length, getD}
-use Rattle.fields.specs.Layout.{get}
 use Rattle.fields.specs.Registers as reg
 use Rattle.access.specs.Access.{readChecks, writeChecks}
 use Rattle.access.specs.Checks.{first}
-use Rattle.access.proofs.Checks.{none-holds, rows}
+use Rattle.access.proofs.Checks.{none-holds}
 use Rattle.tables.specs.Below.{allBelow}
 use Rattle.tables.proofs.Laws.{all-in}
 use Rattle.tables.proofs.Tests.{and-in, eqb-in}
@@ -17,9 +16,11 @@ use Rattle.monitor.specs.Monitor.{monitorOk}
 use Rattle.monitor.specs.Occupancy.{lastEvent}
 use Rattle.monitor.proofs.Monitor.{monitor-ok}
 use Rattle.monitor.proofs.Operations.{monStatus-rows}
-use Rattle.capacity_model.specs.Rules.{Setup, pairs, maskOf, allocStatus}
+use Rattle.capacity_model.specs.Rules.{Setup, pairs, maskOf, badMask}
 use Rattle.capacity_model.specs.Calls.{Call, reset, read, write, fill, evict, done}
-use Rattle.capacity_model.specs.Model.{State, allocWord, allocationOk, wellFormed, lengthsOk, blockChecks, argumentChecks, setupChecks, checks, refusal, step}
+use Rattle.allocation.specs.Allocation.{controlOk}
+use Rattle.allocation.proofs.Operations.{status-rows}
+use Rattle.capacity_model.specs.Model.{State, allocationOk, wellFormed, lengthsOk, blockChecks, argumentChecks, setupChecks, checks, refusal, step}
 use Rattle.capacity_model.specs.Ledger.{Ledger}
 use Rattle.capacity_model.specs.Runs.{stateAfter, ledgerAfter, answerAfter}
 use Rattle.capacity_model.specs.Claim.{isReset}
@@ -32,11 +33,11 @@ use Rattle.capacity_model.proofs.Lists.{inv-after}
 
 module _ {s : State} (g : Good s) where
   allocation-ok : T (allocationOk (s .setup) (s .alloc))
-  unfolding allocationOk
+  unfolding allocationOk controlOk
   allocation-ok =
       let su = s .setup in
       let a = s .alloc in
-      let ctl = eqb (a .ctl) (allocWord su (a .ctl) (get reg.status (a .ctl))) in
+      let ctl = controlOk (su .na) (a .ctl) in
       let mask = eqb (a .mask) (maskOf su (a .mask)) in
       and-in (ctl && mask) (allBelow (pairs su) (λ i. eqb (getD (a .masks) i 0) (maskOf su (getD (a .masks) i 0))))
       (and-in ctl mask (eqb-in _ _ (g .alloc .ctl)) (eqb-in _ _ (g .alloc .mask)))
@@ -110,5 +111,4 @@ pub answering : Answering
 answering = record { always = λ s su cs e. answered s su e cs }
 
 pub statuses : Statuses
-unfolding allocStatus
-statuses = record { alloc = λ su mask v. rows _ _ _ _; monitor = λ na nm v. monStatus-rows na nm lastEvent v }
+statuses = record { alloc = λ su mask v. status-rows (su .nr) (su .na) (badMask mask) v; monitor = λ na nm v. monStatus-rows na nm lastEvent v }

@@ -4,7 +4,6 @@ use mathlib.Core.Bool.{not, cond}
 use Prim.Native.Nat.{ℕ}
 use lib.Dec.{T, eqb, eqb→eq}
 use lib.ListN.{length, getD}
-use Rattle.fields.specs.Layout.{get}
 use Rattle.fields.specs.Registers as reg
 use Rattle.access.specs.Access as access
 use Rattle.tables.proofs.Tests.{cases, not-not, none-test}
@@ -12,16 +11,17 @@ use Rattle.monitor.specs.Monitor.{writeMon}
 use Rattle.monitor.specs.Occupancy.{lastEvent, filled, evicted}
 use Rattle.monitor.proofs.Occupancy.{CounterOk, filled-ok, evicted-ok}
 use Rattle.monitor.proofs.Monitor.{MonitorFacts, cleared-facts, cleared-lengths, write-facts, write-lengths, counted-facts, counted-lengths}
-use Rattle.capacity_model.specs.Rules.{Setup, setupOk, allocStatus}
+use Rattle.capacity_model.specs.Rules.{Setup, setupOk, badMask, allocStatus}
 use Rattle.capacity_model.specs.Calls.{Call, reset, read, write, fill, evict}
-use Rattle.capacity_model.specs.Model.{State, Allocation, allocWord, lengthsOk, setupChecks, checks, refusal, afterReset, writeAlloc, writeMask, withAlloc, withMonitor, writeAt, noteBlock, fillAllowed, fillWith, perform, refuse, step}
+use Rattle.allocation.specs.Allocation.{statusOf, allocWord}
+use Rattle.capacity_model.specs.Model.{State, Allocation, lengthsOk, setupChecks, checks, refusal, afterReset, writeAlloc, writeMask, withAlloc, withMonitor, writeAt, noteBlock, fillAllowed, fillWith, perform, refuse, step}
 use Rattle.capacity_model.specs.Ledger.{Ledger, accepted, noteAlloc, noteMask, noteWrite, started, noteCall, note}
 use Rattle.capacity_model.proofs.Setup.{ranges}
 use Rattle.capacity_model.proofs.Masks.{Held, mask-0, mask-mask, MaskFacts, masks-after, mask-after, reset-masks}
-use Rattle.capacity_model.proofs.Operations.{alloc-own, alloc-0, status-lt}
+use Rattle.allocation.proofs.Operations.{alloc-own, alloc-0, status-lt}
 
 pub record AllocFacts (su : Setup) (a : Allocation) : Type 0 where
-  pub ctl : a .ctl ≡ allocWord su (a .ctl) (get reg.status (a .ctl))
+  pub ctl : a .ctl ≡ allocWord (su .na) (a .ctl) (statusOf (a .ctl))
   pub mask : Held su (a .mask)
   pub masks : MaskFacts su (a .masks)
 
@@ -49,7 +49,7 @@ pub reset-good : (su : Setup) → T (setupOk su) → Good (afterReset su)
 unfolding afterReset
 reset-good su t = record {
   setup = t;
-  alloc = record { ctl = alloc-0 su; mask = mask-0 su; masks = reset-masks su (ranges su t .nr-low) };
+  alloc = record { ctl = alloc-0 (su .na); mask = mask-0 su; masks = reset-masks su (ranges su t .nr-low) };
   monitor = cleared-facts reg.capacityCounter reg.capacityCtr (su .na) (su .nm) lastEvent (su .w);
   counters-long = cleared-lengths (su .nm) .0;
   events-long = cleared-lengths (su .nm) .1;
@@ -73,7 +73,7 @@ module _ {s : State} (g : Good s) where
       let a = s .alloc in
       let f = g .alloc in
       with-alloc _ (record {
-        ctl = alloc-own su v (allocStatus su (a .mask) v) (status-lt su (a .mask) v);
+        ctl = alloc-own (su .na) v (allocStatus su (a .mask) v) (status-lt (su .nr) (su .na) (badMask (a .mask)) v);
         mask = mask-after su (a .masks) (a .mask) v (f .masks) (f .mask);
         masks = masks-after su (a .masks) (a .mask) v (f .masks) (f .mask);
       })

@@ -1,23 +1,22 @@
 -- A mask stays until its pair is set again or a reset comes.
-use mathlib.Core.Path.{_≡_, refl, sym, subst, _∙_}
+use mathlib.Core.Path.{_≡_, refl, subst, _∙_}
 use mathlib.Core.Bool.{Bool, true, false, not, cond, _&&_, _||_}
 use mathlib.Core.List.{List, [], _∷_}
 use Prim.Native.Nat.{ℕ, _<_}
 use lib.Dec.{T, eqb}
-use lib.ListN.{set}
 use Rattle.runs.specs.Runs.{after, events}
 use Rattle.access.specs.Access as access
-use Rattle.access.specs.Pairs.{pair, wordAt}
-use Rattle.access.proofs.Pairs.{pair-at, pair-rcid, word-set-other}
-use Rattle.tables.proofs.Tests.{cases, and-l, and-r, and-in, nand-r, nor-l, nor-r, not-both, eqb-in, cond-yes}
+use Rattle.access.specs.Pairs.{wordAt}
+use Rattle.tables.proofs.Tests.{cases, and-l, and-r, nand-r, nor-l, nor-r, cond-yes}
 use Rattle.monitor.specs.Monitor.{writeMon}
 use Rattle.monitor.specs.Occupancy.{lastEvent, filled}
-use Rattle.capacity_model.specs.Rules.{Setup, configLimit, rcidOf, atOf, allocDone, masksAfter}
+use Rattle.allocation.specs.Allocation.{configLimit, rcidOf, atOf}
+use Rattle.capacity_model.specs.Rules.{Setup, badMask, allocDone}
 use Rattle.capacity_model.specs.Calls.{Call, reset, read, write, fill, evict}
 use Rattle.capacity_model.specs.Model.{State, writeAlloc, writeMask, withAlloc, withMonitor, writeAt, noteBlock, fillAllowed, fillWith, perform, refusal, refuse, step}
 use Rattle.capacity_model.specs.Ledger.{Event, Ledger, accepted, note}
 use Rattle.capacity_model.specs.Claim.{Setting, settingsBy, settings, setsPair, isReset, touches, untouched}
-use Rattle.capacity_model.proofs.Operations.{done-pair}
+use Rattle.allocation.proofs.Operations.{table-other}
 use Rattle.capacity_model.proofs.Invariant.{ledgerBy, Inv, inv-step}
 use Rattle.capacity_model.proofs.Steps.{perform-accepted}
 
@@ -26,23 +25,8 @@ pub record Same (s s′ : State) (rcid at : ℕ) : Type 0 where
   pub word : wordAt (s .setup .na) (s′ .alloc .masks) rcid at ≡ wordAt (s .setup .na) (s .alloc .masks) rcid at
   pub setup : s′ .setup ≡ s .setup
 
-same-table : (su : Setup) (masks : List ℕ) (mask v rcid at : ℕ) → at < su .na → T (not (allocDone su mask configLimit v && eqb (rcidOf v) rcid && eqb (atOf su v) at))
-    → wordAt (su .na) (masksAfter su masks mask v) rcid at ≡ wordAt (su .na) masks rcid at
-unfolding masksAfter
-same-table su masks mask v rcid at h n =
-    let done = allocDone su mask configLimit v in
-    let place = pair (su .na) (rcidOf v) (atOf su v) in
-    let r = eqb (rcidOf v) rcid in
-    let a = eqb (atOf su v) at in
-    (cases (λ x. T (not (x && r && a)) → wordAt (su .na) (cond x (set masks place mask) masks) rcid at ≡ wordAt (su .na) masks rcid at) done
-    (λ t n. let hv = done-pair su mask configLimit v t .at-low in
-    word-set-other (su .na) masks place mask rcid at
-    (λ q. not-both (r && a)
-    (and-in r a (eqb-in (rcidOf v) rcid (sym (pair-rcid (su .na) rcid at (rcidOf v) (atOf su v) h hv q))) (eqb-in (atOf su v) at (sym (pair-at (su .na) rcid at (rcidOf v) (atOf su v) h hv q)))) n))
-    (λ t n. refl)) n
-
 same-write : (s : State) (size offset v rcid at : ℕ) → at < s .setup .na
-    → T (not (eqb offset 24 && allocDone (s .setup) (s .alloc .mask) configLimit v && eqb (rcidOf v) rcid && eqb (atOf (s .setup) v) at))
+    → T (not (eqb offset 24 && allocDone (s .setup) (s .alloc .mask) configLimit v && eqb (rcidOf v) rcid && eqb (atOf (s .setup .na) v) at))
     → Same s (writeAt s size offset v) rcid at
 unfolding writeAt withAlloc writeAlloc writeMask withMonitor
 same-write s size offset v rcid at h =
@@ -51,8 +35,8 @@ same-write s size offset v rcid at h =
     let a = withAlloc s (writeAlloc (s .setup) (s .alloc .mask) (s .alloc .masks) v) in
     let b = withAlloc s (writeMask (s .setup) (s .alloc) size offset v) in
     let m = withMonitor s (writeMon (s .setup .na) (s .setup .nm) lastEvent (s .monitor) v) in
-    cases (λ x. T (not (x && done && eqb (rcidOf v) rcid && eqb (atOf (s .setup) v) at)) → Same s (cond x a (cond operand b (cond (eqb offset 8) m s))) rcid at) (eqb offset 24)
-    (λ t n. record { word = same-table (s .setup) (s .alloc .masks) (s .alloc .mask) v rcid at h n; setup = refl })
+    cases (λ x. T (not (x && done && eqb (rcidOf v) rcid && eqb (atOf (s .setup .na) v) at)) → Same s (cond x a (cond operand b (cond (eqb offset 8) m s))) rcid at) (eqb offset 24)
+    (λ t n. record { word = table-other (s .setup .nr) (s .setup .na) (badMask (s .alloc .mask)) v (s .alloc .masks) (s .alloc .mask) rcid at h n; setup = refl })
     (λ t n. cases (λ x. Same s (cond x b (cond (eqb offset 8) m s)) rcid at) operand
     (λ t. record { word = refl; setup = refl })
     (λ t. cases (λ x. Same s (cond x m s) rcid at) (eqb offset 8) (λ t. record { word = refl; setup = refl }) (λ t. record { word = refl; setup = refl })))
@@ -70,7 +54,7 @@ module _ (s : State) (rcid at : ℕ) (h : at < s .setup .na) where
   same-perform (read size offset) i n = record { word = refl; setup = refl }
   same-perform (write size offset v) i n =
       same-write s size offset v rcid at h
-      (sets-one (eqb offset 24 && allocDone (s .setup) (s .alloc .mask) configLimit v) rcid at (record { rcid = rcidOf v; at = atOf (s .setup) v; mask = s .alloc .mask }) n)
+      (sets-one (eqb offset 24 && allocDone (s .setup) (s .alloc .mask) configLimit v) rcid at (record { rcid = rcidOf v; at = atOf (s .setup .na) v; mask = s .alloc .mask }) n)
   same-perform (fill r m a b) i n =
       cases (λ x. Same s (cond x (noteBlock s m a (filled (s .setup .w))) s) rcid at) (fillAllowed s r a b)
       (λ t. record { word = refl; setup = refl }) (λ t. record { word = refl; setup = refl })

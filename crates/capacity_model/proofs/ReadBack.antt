@@ -9,12 +9,13 @@ use Rattle.runs.specs.Runs.{after, events}
 use Rattle.access.specs.Pairs.{pair, wordAt}
 use Rattle.access.proofs.Pairs.{pair-inside, word-set-same}
 use Rattle.tables.proofs.Tests.{and-l, and-r, cond-yes}
-use Rattle.capacity_model.specs.Rules.{Setup, pairs, configLimit, readLimit, opOf, rcidOf, atOf, allocDone, masksAfter, maskAfter}
+use Rattle.allocation.specs.Allocation.{tableAfter, operandAfter, configLimit, readLimit, opOf, rcidOf, atOf}
+use Rattle.capacity_model.specs.Rules.{Setup, pairs, badMask, allocDone}
 use Rattle.capacity_model.specs.Calls.{Call, reset, read, write, fill, evict}
 use Rattle.capacity_model.specs.Model.{State, Outcome, writeAlloc, withAlloc, writeAt, perform, step}
 use Rattle.capacity_model.specs.Ledger.{Event, Ledger, accepted}
 use Rattle.capacity_model.specs.Claim.{Setting, settingsBy, settings, untouched}
-use Rattle.capacity_model.proofs.Operations.{done-pair, read-done}
+use Rattle.allocation.proofs.Operations.{done-pair, read-done}
 use Rattle.capacity_model.proofs.Invariant.{Good, ledgerBy, Inv}
 use Rattle.capacity_model.proofs.Steps.{done-step}
 use Rattle.capacity_model.proofs.Kept.{same-all}
@@ -35,20 +36,20 @@ written s size offset v a t = ap (λ (o : Outcome). o .state) (done-step s (writ
 
 module _ {s : State} (g : Good s) where
   made : (size offset v : ℕ) → T (accepted (step s (write size offset v) .answer)) → T (eqb offset 24) → T (allocDone (s .setup) (s .alloc .mask) configLimit v)
-      → Back (ledgerBy s) (record { rcid = rcidOf v; at = atOf (s .setup) v; mask = s .alloc .mask }) (step s (write size offset v) .state)
-  unfolding withAlloc writeAlloc masksAfter pairs
+      → Back (ledgerBy s) (record { rcid = rcidOf v; at = atOf (s .setup .na) v; mask = s .alloc .mask }) (step s (write size offset v) .state)
+  unfolding withAlloc writeAlloc tableAfter pairs
   made size offset v a o t =
       let masks = s .alloc .masks in
       let mask = s .alloc .mask in
-      let ok = done-pair (s .setup) mask configLimit v t in
+      let ok = done-pair (s .setup .nr) (s .setup .na) (badMask mask) v configLimit t in
       let na = s .setup .na in
       let w = written s size offset v a o in
-      let c : step s (write size offset v) .state .alloc .masks ≡ set masks (pair na (rcidOf v) (atOf (s .setup) v)) mask =
+      let c : step s (write size offset v) .state .alloc .masks ≡ set masks (pair na (rcidOf v) (atOf (s .setup .na) v)) mask =
       ap (λ (x : State). x .alloc .masks) w ∙ cond-yes (allocDone (s .setup) mask configLimit v) _ masks t in
       record {
-        word = ap (λ (x : List ℕ). wordAt na x (rcidOf v) (atOf (s .setup) v)) c
-            ∙ word-set-same na masks (rcidOf v) (atOf (s .setup) v) mask
-            (rw (g .alloc .masks .long) (pair-inside (s .setup .nr) na (rcidOf v) (atOf (s .setup) v) (ok .rcid-low) (ok .at-low)));
+        word = ap (λ (x : List ℕ). wordAt na x (rcidOf v) (atOf (s .setup .na) v)) c
+            ∙ word-set-same na masks (rcidOf v) (atOf (s .setup .na) v) mask
+            (rw (g .alloc .masks .long) (pair-inside (s .setup .nr) na (rcidOf v) (atOf (s .setup .na) v) (ok .rcid-low) (ok .at-low)));
         setup = ap (λ (x : State). x .setup) w;
         rcid = ok .rcid-low;
         at = ok .at-low;
@@ -61,7 +62,7 @@ module _ {s : State} (g : Good s) where
   back-now (write size offset v) p a m = by (eqb offset 24 && allocDone (s .setup) (s .alloc .mask) configLimit v) refl m
     where
       by : (x : Bool) → (eqb offset 24 && allocDone (s .setup) (s .alloc .mask) configLimit v) ≡ x
-          → List·Memᴰ p (cond x (record { rcid = rcidOf v; at = atOf (s .setup) v; mask = s .alloc .mask } ∷ []) [])
+          → List·Memᴰ p (cond x (record { rcid = rcidOf v; at = atOf (s .setup .na) v; mask = s .alloc .mask } ∷ []) [])
           → Back (ledgerBy s) p (step s (write size offset v) .state)
       by true e k =
           let d = allocDone (s .setup) (s .alloc .mask) configLimit v in
@@ -102,12 +103,12 @@ back-later l p s k i b cs u =
 
 -- ---- READ_LIMIT
 
-pub read-back : (l : Ledger) (p : Setting) (s : State) → Back l p s → (size v : ℕ) → opOf v ≡ readLimit → rcidOf v ≡ p .rcid → atOf (l .setup) v ≡ p .at
+pub read-back : (l : Ledger) (p : Setting) (s : State) → Back l p s → (size v : ℕ) → opOf v ≡ readLimit → rcidOf v ≡ p .rcid → atOf (l .setup .na) v ≡ p .at
     → T (accepted (step s (write size 24 v) .answer)) → step s (write size 24 v) .state .alloc .mask ≡ p .mask
-unfolding withAlloc writeAlloc maskAfter
+unfolding withAlloc writeAlloc operandAfter
 read-back l p s b size v o er ea a =
-    let ha : atOf (s .setup) v ≡ p .at = ap (λ (x : Setup). atOf x v) (b .setup) ∙ ea in
-    let d = read-done (s .setup) (s .alloc .mask) v o (record { rcid-low = rw (er, b .setup) (b .rcid); at-low = rw (ha, b .setup) (b .at) }) in
+    let ha : atOf (s .setup .na) v ≡ p .at = ap (λ (x : Setup). atOf (x .na) v) (b .setup) ∙ ea in
+    let d = read-done (s .setup .nr) (s .setup .na) (badMask (s .alloc .mask)) v o (record { rcid-low = rw (er, b .setup) (b .rcid); at-low = rw (ha, b .setup) (b .at) }) in
     ap (λ (x : State). x .alloc .mask) (written s size 24 v a tt)
     ∙ cond-yes (allocDone (s .setup) (s .alloc .mask) readLimit v) _ (s .alloc .mask) d
     ∙ rw (b .setup, er, ea) (b .word)

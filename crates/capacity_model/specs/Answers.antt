@@ -7,7 +7,8 @@ use lib.Dec.{leb, eqb, T}
 use Rattle.access.specs.Checks.{first, Rows}
 use Rattle.monitor.specs.Monitor as mon
 use Rattle.monitor.specs.Occupancy.{lastEvent}
-use Rattle.capacity_model.specs.Rules.{Setup, configLimit, validOp, opOf, rcidOf, atOf, allocStatus}
+use Rattle.allocation.specs.Allocation.{configLimit, opOf, rcidOf, atOf, validOp}
+use Rattle.capacity_model.specs.Rules.{Setup, badMask, allocStatus}
 use Rattle.capacity_model.specs.Calls.{Call, reset, refused, done}
 use Rattle.capacity_model.specs.Model.{State, setupChecks, argumentChecks, step}
 use Rattle.capacity_model.specs.Ledger.{accepted}
@@ -32,7 +33,7 @@ pub record Answering : Type 0 where
 -- each STATUS under its own condition and no other
 pub record Statuses : Type 0 where
   pub alloc : (su : Setup) (mask v : ℕ)
-      → Rows (not (validOp (opOf v))) (leb (su .nr) (rcidOf v)) (leb (su .na) (atOf su v)) (eqb (opOf v) configLimit && eqb mask 0) (allocStatus su mask v)
+      → Rows (not (validOp (opOf v))) (leb (su .nr) (rcidOf v)) (leb (su .na) (atOf (su .na) v)) (eqb (opOf v) configLimit && badMask mask) (allocStatus su mask v)
   pub monitor : (na nm v : ℕ)
       → Rows (not (mon.validOp (mon.opOf v))) (leb nm (mon.mcidOf v)) (eqb (mon.opOf v) mon.configEvent && not (mon.knownEvent lastEvent (mon.eventOf v)))
       (eqb (mon.opOf v) mon.configEvent && eqb (mon.atvOf na v) 1 && leb na (mon.atOf na v)) (mon.monStatus na nm lastEvent v)

@@ -7,7 +7,8 @@ use lib.Dec.{eqb, T}
 use Rattle.runs.specs.Runs.{events}
 use Rattle.access.specs.Access as access
 use Rattle.access.specs.Pairs.{wordAt, knownAt}
-use Rattle.capacity_model.specs.Rules.{Setup, hasBlock, configLimit, readLimit, opOf, rcidOf, atOf, allocDone}
+use Rattle.allocation.specs.Allocation.{configLimit, readLimit, opOf, rcidOf, atOf}
+use Rattle.capacity_model.specs.Rules.{Setup, hasBlock, allocDone}
 use Rattle.capacity_model.specs.Calls.{Call, reset, read, write, fill, evict, done, value, allowed}
 use Rattle.capacity_model.specs.Model.{State, step}
 use Rattle.capacity_model.specs.Ledger.{Event, Ledger, accepted, note}
@@ -26,7 +27,7 @@ settingsBy l (reset su) = []
 settingsBy l (read size offset) = []
 settingsBy l (write size offset v) =
     cond (access.writesLow offset access.allocCtl && allocDone (l .setup) (l .mask) configLimit v)
-    (record { rcid = rcidOf v; at = atOf (l .setup) v; mask = l .mask } ∷ []) []
+    (record { rcid = rcidOf v; at = atOf (l .setup .na) v; mask = l .mask } ∷ []) []
 settingsBy l (fill rcid mcid at block) = []
 settingsBy l (evict rcid mcid at block) = []
 
@@ -80,7 +81,7 @@ pub record Claim (s : State) (su : Setup) (cs : List Call) : Type 0 where
   pub readBack : (before between after : List Call) (c : Call) (p : Setting) (size v x : ℕ)
       → cs ≡ before ++ c ∷ between ++ write size (8 * access.allocCtl) v ∷ read 8 (8 * access.operand) ∷ after
       → Stands s su before between c p
-      → opOf v ≡ readLimit → rcidOf v ≡ p .rcid → atOf (ledgerAfter s su before .setup) v ≡ p .at
+      → opOf v ≡ readLimit → rcidOf v ≡ p .rcid → atOf (ledgerAfter s su before .setup .na) v ≡ p .at
       → T (accepted (answerAfter s su (before ++ c ∷ between) (write size (8 * access.allocCtl) v)))
       → answerAfter s su (before ++ c ∷ between ++ write size (8 * access.allocCtl) v ∷ []) (read 8 (8 * access.operand)) ≡ value x
       → x ≡ p .mask

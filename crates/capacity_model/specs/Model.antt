@@ -4,7 +4,7 @@ use mathlib.Core.List.{List, [], _∷_, _++_}
 use Prim.Native.Nat.{ℕ}
 use lib.Dec.{leb, eqb}
 use lib.ListN.{length, getD}
-use Rattle.fields.specs.Layout.{get, pack}
+use Rattle.fields.specs.Layout.{pack}
 use Rattle.fields.specs.Registers as reg
 use Rattle.tables.specs.Below.{allBelow}
 use Rattle.runs.specs.Runs as runs
@@ -13,7 +13,8 @@ use Rattle.access.specs.Access as access
 use Rattle.access.specs.Pairs.{wordAt, knownAt}
 use Rattle.monitor.specs.Monitor.{Monitor, cleared, writeMon, counted, monitorOk}
 use Rattle.monitor.specs.Occupancy.{lastEvent, countsBlock, filled, evicted}
-use Rattle.capacity_model.specs.Rules.{Setup, setupOk, pairs, maskOf, hasBlock, resetMasks, opOf, rcidOf, atOf, allocStatus, masksAfter, maskAfter}
+use Rattle.allocation.specs.Allocation.{allocWord, controlOk}
+use Rattle.capacity_model.specs.Rules.{Setup, setupOk, pairs, maskOf, hasBlock, resetMasks, allocStatus, masksAfter, maskAfter}
 use Rattle.capacity_model.specs.Calls.{Call, reset, read, write, fill, evict, Answer, refused, done, value, allowed}
 
 -- ---- the state
@@ -35,14 +36,10 @@ Outcome = runs.Outcome State Answer
 
 -- ---- well formed (document 01: lawful)
 
--- alloc_ctl after the write of v ended with a STATUS; BUSY reads 0
-unfoldable pub allocWord : Setup → ℕ → ℕ → ℕ
-allocWord su v status = pack reg.allocCtl (0 ∷ status ∷ rcidOf v ∷ atOf su v ∷ opOf v ∷ [])
-
 -- alloc_ctl holds only its fields, with BUSY 0; block_mask and every mask have no bit that is held as 0
 unfoldable pub allocationOk : Setup → Allocation → Bool
 allocationOk su a =
-    eqb (a .ctl) (allocWord su (a .ctl) (get reg.status (a .ctl))) && eqb (a .mask) (maskOf su (a .mask))
+    controlOk (su .na) (a .ctl) && eqb (a .mask) (maskOf su (a .mask))
     && allBelow (pairs su) (λ i. eqb (getD (a .masks) i 0) (maskOf su (getD (a .masks) i 0)))
 
 unfoldable pub wellFormed : State → Bool
@@ -115,7 +112,7 @@ readAt s size offset = access.part size offset (register s (access.registerAt of
 -- the fields are stored and the operation is performed
 unfoldable pub writeAlloc : Setup → ℕ → List ℕ → ℕ → Allocation
 writeAlloc su mask masks v = record {
-  ctl = allocWord su v (allocStatus su mask v);
+  ctl = allocWord (su .na) v (allocStatus su mask v);
   mask = maskAfter su masks mask v;
   masks = masksAfter su masks mask v;
 }

@@ -1,8 +1,8 @@
 // Requests: the holder that a request is led to, what it is granted, and what is used afterwards.
+use access::place;
 use fields::field;
 use settings::is_holder;
 use settings::is_sharer;
-use settings::place;
 use settings::reserved_blocks;
 use setup::Setup;
 use tables::least;
@@ -16,7 +16,6 @@ ghost use mathlib.Core.List.{List};
 ghost use Prim.Native.Nat.{ℕ, _-_, _*_, min};
 ghost use lib.Dec.{eqb};
 ghost use Rattle.tables.specs.Below.{Small};
-ghost use Rattle.access.specs.Pairs.{knownAt};
 ghost use Rattle.bandwidth_model.specs.Rules.{reserved, weightOf, sharedAtOf, holderOf};
 ghost use Rattle.bandwidth_model.specs.Facts.{Ranges};
 ghost use Rattle.bandwidth_model.specs.Model.{spend};
@@ -36,13 +35,6 @@ pub struct Grant {
     pub pool: u64,
 }
 
-// The AT that a request's AT counts as.
-pub fn known_at(na: u64, at: u64) -> u64
-    ensures { λ r. ⌜ r ≡ knownAt na at ⌝ }
-{
-    pick(at < na, at, 0)
-}
-
 // The AT that a sharer shares.
 fn shared_at(word: u64) -> u64
     ensures { λ r. ⌜ Small (sharedAtOf word) 7 r ⌝ }
@@ -55,9 +47,9 @@ pub fn holder_of(setup: Setup, active: &[u32], rcid: u64, at: u64) -> Holder
     requires { ⌜ PairIn (setupOf setup) rcid at ⌝ }
     ensures { λ r. ⌜ holderFrom r ≡ holderOf (setupOf setup) (now (active .entry)) rcid at ⌝ }
 {
-    let own = place(setup, rcid, at);
+    let own = place(setup.na, rcid, at);
     let word = word32(active, own) as u64;
-    let other = place(setup, rcid, shared_at(word));
+    let other = place(setup.na, rcid, shared_at(word));
     if is_holder(word) {
         return Holder::Held(own as u64);
     }

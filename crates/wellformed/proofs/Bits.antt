@@ -1,29 +1,19 @@
 -- The bits of a number one by one, and of numbers gathered by `|`.
-use mathlib.Core.Path.{_≡_, refl, sym, ap, subst, _∙_}
-use mathlib.Core.Bool.{Bool, true, false, cond}
+use mathlib.Core.Path.{_≡_, sym, ap, _∙_}
 use mathlib.Core.Logic.{_⊎_, inl, inr, ⊎-elim}
 use Prim.Native.Nat.{ℕ, zero, suc, _+_, _-_, _/_, _%_, _^_, _≤_, _<_, max}
 use native.Mathlib.Nat.{mod-lt, div-eq-of-lt, div-div-eq-div-mul, div-one, pow-suc, pow-succ', one-mul, le-trans}
-use native.Mathlib.Numerals.{add-one}
 use native.Mathlib.Omega.{arith}
 use borrow.Author.Count.{below-more}
-use lib.Dec.{T, eqb, eqb·suc-zero, eqb→eq, ltb, ltb→lt, nltb→le}
+use lib.Dec.{eqb, eqb→eq, ltb, ltb→lt, nltb→le}
 use lib.Bits.{bitOr, or-add-and, and-le-l, and-le-r, or-step, or-shr, or-zero-l}
 use lib.Pow.{pow-lt, pow-mono, pow-pos, pow-add, shl-shr, shr-shr}
 use Rattle.fields.proofs.Laws.{field-mod}
-use Rattle.tables.specs.Below.{allBelow}
-use Rattle.tables.proofs.Tests.{cases, eqb-in, neqb, same-test}
-use Rattle.tables.proofs.Laws.{all-at, all-in}
-use Rattle.wellformed.specs.Bits.{gather, lacking}
+use Rattle.tables.proofs.Tests.{cases, neqb}
+use Rattle.tables.specs.Below.{gather}
+use Rattle.wellformed.specs.Bits.{lacking}
 
 -- ---- unions
-
-pub or-zero : (a b : ℕ) → bitOr a b ≡ 0 → (a ≡ 0) × (b ≡ 0)
-or-zero a b h =
-    (omega (arith, or-add-and a b, and-le-l a b, and-le-r a b), omega (arith, or-add-and a b, and-le-l a b, and-le-r a b))
-
-pub or-none : (a b : ℕ) → a ≡ 0 → b ≡ 0 → bitOr a b ≡ 0
-or-none a b h k = omega (arith, or-add-and a b)
 
 pub or-ge-l : (a b : ℕ) → a ≤ bitOr a b
 or-ge-l a b = omega (arith, or-add-and a b, and-le-r a b)
@@ -96,42 +86,6 @@ covered (suc n) x y l f =
         (λ t. let d = neqb (x % 2) 1 t in omega arith)
 
 -- ---- what is gathered
-
-pub gather-none : (f : ℕ → ℕ) → gather 0 f ≡ 0
-unfolding gather
-gather-none f = refl
-
-pub gather-next : (n : ℕ) (f : ℕ → ℕ) → gather (n + 1) f ≡ bitOr (gather n f) (f n)
-unfolding gather
-gather-next n f = rw add-one
-
--- nothing is gathered where each part is 0
-pub gather-zero : (n : ℕ) (f : ℕ → ℕ) → gather n f ≡ 0 → (i : ℕ) → i < n → f i ≡ 0
-unfolding gather
-gather-zero zero f h i l = absurd (omega arith)
-gather-zero (suc n) f h i l =
-    let z = or-zero (gather n f) (f n) h in
-    below-more (λ k. f k ≡ 0) n (gather-zero n f (z .0)) (z .1) i (omega arith)
-
-pub zero-gather : (n : ℕ) (f : ℕ → ℕ) → ((i : ℕ) → i < n → f i ≡ 0) → gather n f ≡ 0
-unfolding gather
-zero-gather zero f h = refl
-zero-gather (suc n) f h = or-none (gather n f) (f n) (zero-gather n f (λ i l. h i (omega arith))) (h n (omega arith))
-
--- a test of each index, by what is gathered
-pub none-gathered : (n : ℕ) (f : ℕ → ℕ) (p : ℕ → Bool) → ((i : ℕ) → i < n → eqb (f i) 0 ≡ p i) → eqb (gather n f) 0 ≡ allBelow n p
-none-gathered n f p h =
-    same-test (eqb (gather n f) 0) (allBelow n p)
-    (λ t. all-in n p (λ i l. subst T (h i l) (eqb-in (f i) 0 (gather-zero n f (eqb→eq (gather n f) 0 t) i l))))
-    (λ t. eqb-in (gather n f) 0 (zero-gather n f (λ i l. eqb→eq (f i) 0 (subst T (sym (h i l)) (all-at n p t i l)))))
-
--- 0 where p holds of the index, and else a number that is not
-pub none-bad : (n k : ℕ) (p : ℕ → Bool) → eqb (gather n (λ i. cond (p i) 0 (suc k))) 0 ≡ allBelow n p
-none-bad n k p = none-gathered n (λ i. cond (p i) 0 (suc k)) p (λ i l. one (p i))
-  where
-    one : (b : Bool) → eqb (cond b 0 (suc k)) 0 ≡ b
-    one true = refl
-    one false = eqb·suc-zero k
 
 pub gather-has : (n : ℕ) (f : ℕ → ℕ) (k i : ℕ) → i < n → Has k (f i) → Has k (gather n f)
 unfolding gather

@@ -4,4 +4,3 @@ pub mod Forms
 pub mod Marks
 pub mod Passes
 pub mod Tables
-pub mod Monitors

@@ -9,7 +9,8 @@ use lib.Dec.{eqb}
 use lib.Pow.{pow-add, pow-pos}
 use Rattle.tables.proofs.Tests.{cases, cond-yes, neqb, neqb-in}
 use Rattle.bandwidth_model.specs.Rules.{rbwbOf, sharedAtOf, useSharedOf}
-use Rattle.wellformed.specs.Bits.{gather, mark, lacking}
+use Rattle.tables.specs.Below.{gather}
+use Rattle.wellformed.specs.Bits.{mark, lacking}
 use Rattle.wellformed.proofs.Bits.{Has, has-left, has-right, has-or, has-not, has-own, has-pow, gather-has, has-gather, held, lacks-none}
 use Rattle.wellformed.proofs.Forms.{low-blocks}
 

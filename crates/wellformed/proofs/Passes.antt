@@ -10,12 +10,13 @@ use lib.Bits.{bitOr, or-zero-r}
 use lib.Dec.{leb, le→leb}
 use lib.ListN.{getD}
 use lib.Pow.{pow-mono}
-use Rattle.tables.specs.Below.{sumBelow}
+use Rattle.tables.specs.Below.{sumBelow, gather}
 use Rattle.tables.proofs.Tests.{cond-yes}
 use Rattle.tables.proofs.Laws.{sum-none, sum-add, sum-zero}
 use Rattle.bandwidth_model.specs.Rules.{useSharedOf}
-use Rattle.wellformed.specs.Bits.{gather, formAt, blocksAt, markAt, rowAt, overAt, AtMost, Looked}
-use Rattle.wellformed.proofs.Bits.{or-ge-l, or-ge-r, gather-none}
+use Rattle.wellformed.specs.Bits.{formAt, blocksAt, markAt, rowAt, overAt, AtMost, Looked}
+use Rattle.tables.proofs.Gather.{gather-none}
+use Rattle.wellformed.proofs.Bits.{or-ge-l, or-ge-r}
 use Rattle.wellformed.proofs.Forms.{unset, form-of}
 use Rattle.wellformed.proofs.Marks.{held-row}
 

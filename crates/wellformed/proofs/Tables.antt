@@ -8,7 +8,7 @@ use native.Mathlib.Omega.{arith}
 use lib.Dec.{T, eqb, eqb→eq, leb, leb→le, le→leb}
 use lib.ListN.{length, getD}
 use Rattle.fields.specs.Registers as reg
-use Rattle.tables.specs.Below.{sumBelow, sumOf, allBelow}
+use Rattle.tables.specs.Below.{sumBelow, sumOf, allBelow, gather}
 use Rattle.tables.proofs.Tests.{and-l, and-r, and-in, eqb-in, same-test}
 use Rattle.tables.proofs.Laws.{sum-same, all-same}
 use Rattle.access.specs.Pairs.{pair, wordAt}
@@ -20,9 +20,9 @@ use Rattle.bandwidth_model.specs.Model.{tableOk}
 use Rattle.bandwidth_model.specs.Facts.{Sized}
 use Rattle.bandwidth_model.proofs.Words.{shared-0, blocks-0, shared-1, not-0, stored-fields-1, holder-in, holder-shared, not-holder-0}
 use Rattle.bandwidth_model.proofs.Settings.{View, unset, holds, follows, TableFacts, table-ok, table-facts}
-use Rattle.wellformed.specs.Bits.{gather, formAt, blocksAt, markAt, rowAt, overAt, Looked}
+use Rattle.wellformed.specs.Bits.{formAt, blocksAt, markAt, rowAt, overAt, Looked}
 use Rattle.wellformed.specs.Tables.{tablesOk}
-use Rattle.wellformed.proofs.Bits.{gather-zero, zero-gather, none-bad}
+use Rattle.tables.proofs.Gather.{gather-zero, zero-gather, none-bad}
 use Rattle.wellformed.proofs.Forms as forms
 use Rattle.wellformed.proofs.Forms.{Form, low-blocks, formed, form-of, form-reserved}
 use Rattle.wellformed.proofs.Marks.{Led, row-held, held-row}

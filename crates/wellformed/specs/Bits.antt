@@ -1,17 +1,12 @@
 -- What the passes over the tables gather: bits that are all 0 where nothing is wrong.
-use Prim.Native.Nat.{ℕ, zero, suc, _+_, _-_, _*_, _/_, _%_, _^_, _≤_, _<_}
+use Prim.Native.Nat.{ℕ, _+_, _-_, _*_, _/_, _%_, _^_, _≤_, _<_}
 use mathlib.Core.Bool.{not, cond}
 use mathlib.Core.Path.{_≡_}
 use mathlib.Core.List.{List}
 use lib.Bits.{bitAnd, bitOr}
 use lib.Dec.{leb, eqb}
 use lib.ListN.{length, getD}
-use Rattle.tables.specs.Below.{sumBelow}
-
--- f 0 | .. | f (n - 1)
-unfoldable pub gather : ℕ → (ℕ → ℕ) → ℕ
-gather zero f = 0
-gather (suc n) f = bitOr (gather n f) (f n)
+use Rattle.tables.specs.Below.{sumBelow, gather}
 
 -- the bits of a settings word that may not be there: unnamed ones, a sharer's Rbwb or a holder's sharedAT, the Mweight of a word with no Rbwb
 unfoldable pub formBits : ℕ → ℕ

@@ -1,19 +1,20 @@
 // Check 3 over the lent tables of a bandwidth controller, by passes that gather what must be 0.
-mod counters;
-mod events;
 mod parts;
 mod rows;
 mod settings;
 mod usage;
 
-use counters::counters_ok;
-use events::events_ok;
+use monitor::bandwidth_counters_ok;
+use monitor::events_ok;
 use settings::settings_ok;
 use setup::Setup;
 use usage::used_ok;
 ghost use Rattle.bandwidth_model.specs.Facts.{Ranges, Sized};
 ghost use Rattle.setup.specs.View.{setupOf};
 ghost use Rattle.wellformed.specs.Tables.{TablesSeen};
+
+// The highest EVT_ID that the bandwidth controller knows.
+const LAST_EVENT: u16 = 3;
 
 // What check 3 finds of the tables.
 pub struct Seen {
@@ -37,8 +38,8 @@ pub fn tables_ok(
     let a = settings_ok(setup, active);
     let c = settings_ok(setup, configured);
     let u = used_ok(active, used, setup.q as u32);
-    let k = counters_ok(counters, setup.w as u32);
-    let e = events_ok(events, setup.na as u16);
+    let k = bandwidth_counters_ok(counters, setup.w as u32);
+    let e = events_ok(events, setup.na as u16, LAST_EVENT);
     Seen {
         ok: a.ok & c.ok & u & k & e,
         active: a.blocks,

@@ -3,7 +3,8 @@ use crate::parts::pick;
 ghost use mathlib.Core.Path.{_≡_};
 ghost use Prim.Native.Nat.{_+_, _<_, _≤_};
 ghost use lib.ListN.{length};
-ghost use Rattle.wellformed.specs.Bits.{gather, mark, markAt, lacking, rowAt, Part};
+ghost use Rattle.tables.specs.Below.{gather};
+ghost use Rattle.wellformed.specs.Bits.{mark, markAt, lacking, rowAt, Part};
 
 // What the word w at AT a says of its row: bit 16 + a, that it has blocks; bit 8 + s, that it shares AT s.
 fn mark_of(a: u32, w: u32) -> u32

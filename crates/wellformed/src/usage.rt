@@ -7,9 +7,9 @@ ghost use mathlib.Core.Bool.{cond};
 ghost use Prim.Native.Nat.{_*_, _<_, _≤_};
 ghost use lib.Dec.{leb};
 ghost use lib.ListN.{length, getD};
-ghost use Rattle.tables.specs.Below.{allBelow};
+ghost use Rattle.tables.specs.Below.{allBelow, gather};
 ghost use Rattle.bandwidth_model.specs.Rules.{rbwbOf};
-ghost use Rattle.wellformed.specs.Bits.{gather, overAt};
+ghost use Rattle.wellformed.specs.Bits.{overAt};
 
 // All ones where more than blocks * q bytes are used.
 fn over(used: u32, blocks: u32, q: u32) -> u32

@@ -23,7 +23,7 @@ returns c =
       ok =
           tables-test (setupOf (a .setup)) (a .active .now) (a .configured .now) (a .used .now) (a .counters .now) (a .events .now) (s .pre .1)
           (first .settings-ok .ensures .ok) (second .settings-ok2 .ensures .ok) (after .before .before .before .before .used-ok .ensures)
-          (after .before .before .counters-ok .ensures) (after .events-ok .ensures);
+          (after .before .before .bandwidth-counters-ok .ensures) (after .events-ok .ensures);
       active = λ t. first .settings-ok .ensures .blocks (search (and-l, and-r) depth 6);
       configured = λ t. second .settings-ok2 .ensures .blocks (search (and-l, and-r) depth 6);
     }

@@ -5,7 +5,7 @@ use native.Mathlib.Omega.{arith}
 use borrow.Author.Needs.{needs}
 use Rattle.tables.proofs.Laws.{sum-next}
 use Rattle.wellformed.specs.Bits.{formAt, blocksAt, Scanned}
-use Rattle.wellformed.proofs.Bits.{gather-next}
+use Rattle.tables.proofs.Gather.{gather-next}
 use Rattle.wellformed.proofs.settings.scan_part.Statement.{statement}
 use Rattle.wellformed.proofs.settings.scan_part.Tie as tie
 

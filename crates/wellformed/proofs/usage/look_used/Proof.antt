@@ -4,8 +4,9 @@ use Prim.Native.Nat.{_≤_, _-_}
 use native.Mathlib.Omega.{arith}
 use borrow.Author.Needs.{needs}
 use lib.ListN.{length}
-use Rattle.wellformed.specs.Bits.{gather, overAt}
-use Rattle.wellformed.proofs.Bits.{gather-none}
+use Rattle.tables.specs.Below.{gather}
+use Rattle.wellformed.specs.Bits.{overAt}
+use Rattle.tables.proofs.Gather.{gather-none}
 use Rattle.wellformed.proofs.Passes.{used-skip}
 use Rattle.wellformed.proofs.usage.look_used.Statement.{statement}
 use Rattle.wellformed.proofs.usage.look_used.Tie as tie

@@ -1,0 +1,119 @@
+-- Checks 1 to 3 as facts, and the state's test put together from its parts.
+use mathlib.Core.Path.{_≡_, refl, sym, _∙_}
+use mathlib.Core.Bool.{Bool, true, false, not, cond, _&&_}
+use mathlib.Core.List.{[], _∷_}
+use Prim.Native.Nat.{ℕ, _^_, _<_}
+use borrow.Author.Tests.{eq-eqb}
+use lib.Dec.{T, eqb, eqb→eq, nleb→lt, leb, ltb→lt, ltb}
+use lib.ListN.{length, getD}
+use Rattle.fields.specs.Layout.{get, kept}
+use Rattle.fields.specs.Registers as reg
+use Rattle.fields.proofs.Registers.{capacityCounter-kept}
+use Rattle.tables.specs.Below.{allBelow}
+use Rattle.tables.proofs.Tests.{and-l, and-r, not-not, nor-l, nor-r}
+use Rattle.tables.proofs.Laws.{all-at}
+use Rattle.access.specs.Checks.{_gives_, first}
+use Rattle.access.proofs.Checks.{first-append, first-other, first-passes, none-holds}
+use Rattle.allocation.specs.Allocation.{controlOk}
+use Rattle.monitor.specs.Monitor.{monWord, statusOf, counterOk, settingOk, monitorOk}
+use Rattle.monitor.specs.Occupancy.{lastEvent}
+use Rattle.monitor.proofs.Forms.{named-all}
+use Rattle.capacity_model.specs.Rules.{Setup, setupOk, maskOf}
+use Rattle.capacity_model.specs.Facts.{Sized}
+use Rattle.capacity_model.specs.Model.{State, allocationOk, wellFormed, lengthsOk, setupChecks, stateChecks, blockChecks}
+use Rattle.capacity_model.proofs.Setup.{ranges}
+use Rattle.capacity_model.proofs.Steps.{Passing}
+use Rattle.capacity.specs.Checked.{Passes, Named}
+
+-- ---- checks 1 and 2
+
+pub sized : (su : Setup) (s : State) → T (lengthsOk su s) → Sized su (s .alloc .masks) (s .monitor .counters) (s .monitor .events)
+unfolding lengthsOk
+sized su s t = search (eqb→eq, and-l, and-r) depth 9
+
+module _ (su : Setup) (s : State) (e : 0 ≡ first (setupChecks su s) 0) where
+  pub setup-passed : T (setupOk su)
+  unfolding setupChecks
+  setup-passed = not-not (setupOk su) (none-holds 0 (setupChecks su s) 0 tt (sym e) .0 .0)
+
+  pub lengths-passed : Sized su (s .alloc .masks) (s .monitor .counters) (s .monitor .events)
+  unfolding setupChecks
+  lengths-passed = sized su s (not-not (lengthsOk su s) (none-holds 0 (setupChecks su s) 0 tt (sym e) .0 .1 .0))
+
+-- ---- check 3 after them
+
+module _ (s : State) where
+  state-first : first (stateChecks s) 0 ≡ first (setupChecks (s .setup) s) (cond (not (wellFormed s)) 3 0)
+  unfolding stateChecks
+  state-first = first-append (setupChecks (s .setup) s) ((not (wellFormed s) gives 3) ∷ []) 0
+
+  pub state-failed : (n : ℕ) → 0 < n → n ≡ first (setupChecks (s .setup) s) 0 → n ≡ first (stateChecks s) 0
+  state-failed n h e = sym (state-first ∙ first-other (setupChecks (s .setup) s) n _ h (sym e))
+
+  pub state-judged : 0 ≡ first (setupChecks (s .setup) s) 0 → (b : Bool) → b ≡ wellFormed s → cond b 0 3 ≡ first (stateChecks s) 0
+  unfolding setupChecks
+  state-judged e b q = sym (state-first ∙ first-passes (setupChecks (s .setup) s) _ tt e ∙ rw (← q) (turned b))
+    where
+      turned : (b : Bool) → _≡_ {A = ℕ} (cond (not b) 3 0) (cond b 0 3)
+      turned true = refl
+      turned false = refl
+
+  pub passing : 0 ≡ first (stateChecks s) 0 → Passing s
+  unfolding stateChecks setupChecks
+  passing e =
+      let f = none-holds 0 (stateChecks s) 0 tt (sym e) .0 in
+      record {
+        setup = not-not (setupOk (s .setup)) (f .0);
+        lengths = not-not (lengthsOk (s .setup) s) (f .1 .0);
+        wellformed = not-not (wellFormed s) (f .1 .1 .0);
+      }
+
+  -- the state passes checks 1 to 3
+  pub passes : 0 ≡ first (stateChecks s) 0 → Passes s
+  passes e =
+      let p = passing e in
+      record { ranges = ranges (s .setup) (p .setup); sized = sized (s .setup) s (p .lengths); wellformed = p .wellformed }
+
+  and-one : (b : Bool) → (b && true) ≡ b
+  and-one true = refl
+  and-one false = refl
+
+  -- every word below 2^64 has only named bits of a capacity counter
+  value-test : s .monitor .value < 2 ^ 64 → eqb (s .monitor .value) (kept reg.capacityCounter (s .monitor .value)) ≡ true
+  value-test h =
+      let v = s .monitor .value in
+      eq-eqb v (kept reg.capacityCounter v) (named-all reg.capacityCounter capacityCounter-kept v h)
+
+  pub well-formed-is : Sized (s .setup) (s .alloc .masks) (s .monitor .counters) (s .monitor .events) → s .monitor .value < 2 ^ 64 → (a b m c k e : Bool)
+      → a ≡ controlOk (s .setup .na) (s .alloc .ctl) → b ≡ eqb (s .alloc .mask) (maskOf (s .setup) (s .alloc .mask))
+      → m ≡ allBelow (length (s .alloc .masks)) (λ i. eqb (getD (s .alloc .masks) i 0) (maskOf (s .setup) (getD (s .alloc .masks) i 0)))
+      → c ≡ eqb (s .monitor .ctl) (monWord (s .setup .na) (s .monitor .ctl) (statusOf (s .monitor .ctl)))
+      → k ≡ allBelow (length (s .monitor .counters)) (λ i. counterOk reg.capacityCounter reg.capacityCtr (s .setup .w) (getD (s .monitor .counters) i 0))
+      → e ≡ allBelow (length (s .monitor .events)) (λ i. settingOk (s .setup .na) lastEvent (getD (s .monitor .events) i 0))
+      → (a && b && m && (c && k && e)) ≡ wellFormed s
+  unfolding wellFormed allocationOk monitorOk
+  well-formed-is z h a b m c k e ea eb em ec ek ee =
+      rw (ea, eb, em, ec, ek, ee, z .masks-long, z .counters-long, z .events-long, value-test h, and-one) refl
+
+-- ---- checks 7 and 8
+
+pub named : (su : Setup) (rcid mcid block : ℕ) → 0 ≡ first (blockChecks su rcid mcid block) 0 → Named su rcid mcid block
+unfolding blockChecks
+named su rcid mcid block e =
+    let f = none-holds 0 (blockChecks su rcid mcid block) 0 tt (sym e) .0 in
+    record {
+      rcid-in = nleb→lt (su .nr) rcid (nor-l (leb (su .nr) rcid) (leb (su .nm) mcid) (f .0));
+      mcid-in = nleb→lt (su .nm) mcid (nor-r (leb (su .nr) rcid) (leb (su .nm) mcid) (f .0));
+      block-in = nleb→lt (su .ncblks) block (f .1 .0);
+    }
+
+-- ---- a counter is below 2^W
+
+pub counter-low : (s : State) → Passes s → (mcid : ℕ) → mcid < s .setup .nm → get reg.capacityCtr (getD (s .monitor .counters) mcid 0) < 2 ^ s .setup .w
+unfolding wellFormed monitorOk counterOk
+counter-low s p mcid h =
+    let t = p .wellformed in
+    let ok : (i : ℕ) → Bool = λ i. counterOk reg.capacityCounter reg.capacityCtr (s .setup .w) (getD (s .monitor .counters) i 0) in
+    let word = getD (s .monitor .counters) mcid 0 in
+    let all : T (allBelow (s .setup .nm) ok) = search (and-l, and-r) depth 8 in
+    ltb→lt (get reg.capacityCtr word) (2 ^ s .setup .w) (and-l (ltb (get reg.capacityCtr word) (2 ^ s .setup .w)) (eqb word (kept reg.capacityCounter word)) (all-at (s .setup .nm) ok all mcid h))

@@ -1,0 +1,48 @@
+-- The code's set-up, record, tables and answers as the model's.
+use mathlib.Core.Bool.{true, false}
+use mathlib.Core.List.{List}
+use Prim.Native.Nat.{ℕ}
+use Rattle.access.specs.Refusals.{numberOf}
+use Rattle.access.specs.declared.Ack.{Ack}
+use Rattle.access.specs.declared.Ack.the-variants as ack
+use Rattle.access.specs.declared.Reading.{Reading}
+use Rattle.access.specs.declared.Reading.the-variants as reading
+use Rattle.capacity_model.specs.Rules as rules
+use Rattle.capacity_model.specs.Calls.{Answer, refused, done, value, allowed}
+use Rattle.capacity_model.specs.Model.{Allocation, State, Outcome}
+use Rattle.capacity.specs.declared.setup.Setup.{Setup}
+use Rattle.capacity.specs.declared.Record.{Record}
+use Rattle.capacity.specs.declared.Filling.{Filling}
+use Rattle.capacity.specs.declared.Filling.the-variants as filling
+
+abbrev pub setupOf : Setup → rules.Setup
+setupOf s = record { ncblks = s .ncblks; nr = s .nr; na = s .na; nm = s .nm; w = s .w }
+
+-- alloc_ctl, block_mask and the masks
+abbrev pub allocation : ℕ → ℕ → List ℕ → Allocation
+allocation ctl mask masks = record { ctl = ctl; mask = mask; masks = masks }
+
+-- the record with the masks, counters and counter settings
+abbrev pub state : Record → List ℕ → List ℕ → List ℕ → State
+state r masks counters events = record {
+  setup = setupOf (r .setup);
+  alloc = allocation (r .«alloc_ctl») (r .«block_mask») masks;
+  monitor = record { ctl = r .«mon_ctl»; value = r .«mon_ctr_val»; counters = counters; events = events };
+}
+
+abbrev pub outcome : Answer → State → Outcome
+outcome a s = record { answer = a; state = s }
+
+-- document 01's number and values for each case of an answer
+abbrev pub ackOf : Ack → Answer
+ackOf ack.Done = done
+ackOf (ack.Refused r) = refused (numberOf r)
+
+abbrev pub readingOf : Reading → Answer
+readingOf (reading.Value v) = value v
+readingOf (reading.Refused r) = refused (numberOf r)
+
+abbrev pub fillingOf : Filling → Answer
+fillingOf filling.Allowed = allowed true
+fillingOf filling.NotAllowed = allowed false
+fillingOf (filling.Refused r) = refused (numberOf r)

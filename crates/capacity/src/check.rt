@@ -1,0 +1,83 @@
+// Checks 1 to 3.
+use crate::Record;
+use crate::masks::mask_of;
+use crate::masks::masks_ok;
+use crate::setup::Setup;
+use access::Refusal;
+use access::Verdict;
+use allocation::control_ok;
+use monitor::capacity_counters_ok;
+use monitor::events_ok;
+ghost use mathlib.Core.Path.{_≡_};
+ghost use Rattle.access.specs.Checks.{first};
+ghost use Rattle.access.specs.Refusals.{verdictOf};
+ghost use Rattle.capacity_model.specs.Facts.{Ranges, Sized};
+ghost use Rattle.capacity_model.specs.Model.{lengthsOk, wellFormed, setupChecks, stateChecks};
+ghost use Rattle.capacity.specs.View.{setupOf, state};
+
+// The highest EVT_ID that the capacity controller knows.
+const LAST_EVENT: u16 = 1;
+
+impl Record {
+    // Check 2, by a set-up.
+    fn lengths_ok(self, setup: Setup, masks: &[u64], counters: &[u64], events: &[u16]) -> bool
+        requires { ⌜ Ranges (setupOf setup) ⌝ }
+        ensures { λ r. ⌜ r ≡ lengthsOk (setupOf setup) (state self (now (masks .entry)) (now (counters .entry)) (now (events .entry))) ⌝ }
+    {
+        let pairs = setup.pairs() as usize;
+        let nm = setup.nm as usize;
+        (masks.len() == pairs) & (counters.len() == nm) & (events.len() == nm)
+    }
+
+    // Check 3.
+    fn well_formed(self, masks: &[u64], counters: &[u64], events: &[u16]) -> bool
+        requires { ⌜ Ranges (setupOf (self .setup)) × Sized (setupOf (self .setup)) (now masks) (now counters) (now events) ⌝ }
+        ensures { λ r. ⌜ r ≡ wellFormed (state self (now (masks .entry)) (now (counters .entry)) (now (events .entry))) ⌝ }
+    {
+        let setup = self.setup;
+        let allocation = control_ok(setup.na, self.alloc_ctl)
+            & (self.block_mask == mask_of(setup, self.block_mask))
+            & masks_ok(setup, masks);
+        let monitoring = monitor::control_ok(setup.na, self.mon_ctl)
+            & capacity_counters_ok(counters, setup.w as u32)
+            & events_ok(events, setup.na as u16, LAST_EVENT);
+        allocation & monitoring
+    }
+
+    // Checks 1 and 2, by a set-up.
+    pub fn check_setup(
+        self,
+        setup: Setup,
+        masks: &[u64],
+        counters: &[u64],
+        events: &[u16],
+    ) -> Verdict
+        ensures { λ r. ⌜ verdictOf r ≡ first (setupChecks (setupOf setup) (state self (now (masks .entry)) (now (counters .entry)) (now (events .entry)))) 0 ⌝ }
+    {
+        if setup.in_range() {
+            if self.lengths_ok(setup, masks, counters, events) {
+                Verdict::Passed
+            } else {
+                Verdict::Failed(Refusal::Length)
+            }
+        } else {
+            Verdict::Failed(Refusal::Setup)
+        }
+    }
+
+    // Checks 1 to 3.
+    pub fn check(self, masks: &[u64], counters: &[u64], events: &[u16]) -> Verdict
+        ensures { λ r. ⌜ verdictOf r ≡ first (stateChecks (state self (now (masks .entry)) (now (counters .entry)) (now (events .entry)))) 0 ⌝ }
+    {
+        match self.check_setup(self.setup, masks, counters, events) {
+            Verdict::Failed(why) => Verdict::Failed(why),
+            Verdict::Passed => {
+                if self.well_formed(masks, counters, events) {
+                    Verdict::Passed
+                } else {
+                    Verdict::Failed(Refusal::State)
+                }
+            }
+        }
+    }
+}

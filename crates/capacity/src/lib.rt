@@ -1,0 +1,43 @@
+// The capacity controller: its record, and the calls on it.
+mod blocks;
+mod check;
+mod masks;
+mod registers;
+mod reset;
+mod setup;
+
+use access::Ack;
+use access::Reading;
+use access::Refusal;
+pub use setup::Setup;
+
+// The set-up, and the registers as they read.
+pub struct Record {
+    pub setup: Setup,
+    pub mon_ctl: u64,
+    pub mon_ctr_val: u64,
+    pub alloc_ctl: u64,
+    pub block_mask: u64,
+}
+
+// The answer of a fill.
+pub enum Filling {
+    Allowed,
+    NotAllowed,
+    Refused(Refusal),
+}
+
+pub struct Acked {
+    pub record: Record,
+    pub ack: Ack,
+}
+
+pub struct Read {
+    pub record: Record,
+    pub reading: Reading,
+}
+
+pub struct Filled {
+    pub record: Record,
+    pub filling: Filling,
+}

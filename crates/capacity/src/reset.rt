@@ -1,0 +1,61 @@
+// Resets.
+use crate::Acked;
+use crate::Record;
+use crate::masks::all_blocks;
+use crate::setup::Setup;
+use access::Ack;
+use access::Verdict;
+use tables::fill16;
+use tables::fill64;
+ghost use mathlib.Core.Path.{_≡_};
+ghost use lib.ListN.{length};
+ghost use Rattle.capacity_model.specs.Facts.{Ranges};
+ghost use Rattle.capacity_model.specs.Calls.{reset};
+ghost use Rattle.capacity_model.specs.Rules.{pairs, resetMasks};
+ghost use Rattle.capacity_model.specs.Model.{step};
+ghost use Rattle.capacity.specs.View.{setupOf, state, outcome, ackOf};
+
+// The masks of a reset: every block for each AT of RCID 0, and else none.
+fn reset_masks(setup: Setup, masks: &mut [u64])
+    requires { ⌜ Ranges (setupOf setup) × (length (now masks) ≡ pairs (setupOf setup)) ⌝ }
+    ensures { λ r. ⌜ now (masks .exit) ≡ resetMasks (setupOf setup) ⌝ }
+{
+    let na = setup.na as usize;
+    fill64(masks, 0);
+    fill64(&mut masks[..na], all_blocks(setup));
+}
+
+impl Record {
+    pub fn reset(
+        mut self,
+        masks: &mut [u64],
+        counters: &mut [u64],
+        events: &mut [u16],
+        setup: Setup,
+    ) -> Acked
+        ensures { λ r. ⌜ outcome (ackOf (r .ack)) (state (r .«record») (now (masks .exit)) (now (counters .exit)) (now (events .exit)))
+            ≡ step (state self (now (masks .entry)) (now (counters .entry)) (now (events .entry))) (reset (setupOf setup)) ⌝ }
+    {
+        match self.check_setup(setup, masks, counters, events) {
+            Verdict::Failed(why) => Acked {
+                record: self,
+                ack: Ack::Refused(why),
+            },
+            Verdict::Passed => {
+                reset_masks(setup, masks);
+                fill64(counters, 0);
+                fill16(events, 0);
+                Acked {
+                    record: Record {
+                        setup,
+                        mon_ctl: 0,
+                        mon_ctr_val: 0,
+                        alloc_ctl: 0,
+                        block_mask: 0,
+                    },
+                    ack: Ack::Done,
+                }
+            }
+        }
+    }
+}
