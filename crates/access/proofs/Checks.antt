@@ -1,13 +1,13 @@
 -- Laws of conditions in checking order.
-use mathlib.Core.Path.{_≡_, refl, sym, ap, subst}
+use mathlib.Core.Path.{_≡_, refl, sym, ap, subst, _∙_}
 use mathlib.Core.Bool.{Bool, true, false, not, cond, _&&_}
 use mathlib.Core.List.{List, [], _∷_, _++_}
 use mathlib.Core.Logic.{_↔_}
 use Prim.Native.Nat.{ℕ, _<_}
 use native.Mathlib.Omega.{arith}
 use lib.Dec.{T, ltb, eqb, eqb→eq, ltb→lt}
-use Rattle.tables.proofs.Tests.{cases, and-l, and-r, neqb, eqb-in, cond-no}
-use Rattle.access.specs.Checks.{Check, _gives_, first, Rows}
+use Rattle.tables.proofs.Tests.{cases, and-l, and-r, not-not, not-not-in, neqb, eqb-in, cond-yes, cond-no}
+use Rattle.access.specs.Checks.{Check, _gives_, first, setupChecks, stateChecks, Rows}
 
 pub first-append : (xs ys : List Check) (o : ℕ) → first (xs ++ ys) o ≡ first xs (first ys o)
 first-append [] ys o = refl
@@ -58,6 +58,57 @@ first-lt k (c ∷ cs) o t h =
     let m : ℕ = c .number in
     cases (λ b. cond b m (first cs o) < k) (c .holds) (λ s. ltb→lt m k (and-l (ltb m k) (below k cs) t))
     (λ s. first-lt k cs o (and-r (ltb m k) (below k cs) t) h)
+
+-- ---- checks 1 to 3
+
+-- they pass
+pub record Passing (inRange long formed : Bool) : Type 0 where
+  pub setup : T inRange
+  pub lengths : T long
+  pub wellformed : T formed
+
+-- the first that fails, whatever is checked after them
+module _ (a b : Bool) where
+  pub setup-fails : T (not a) → first (setupChecks a b) 0 ≡ 1
+  unfolding setupChecks
+  setup-fails n = cond-yes {A = ℕ} (not a) 1 _ n
+
+  pub lengths-fail : T a → T (not b) → first (setupChecks a b) 0 ≡ 2
+  unfolding setupChecks
+  lengths-fail t n = cond-no {A = ℕ} (not a) 1 _ (not-not-in a t) ∙ cond-yes {A = ℕ} (not b) 2 0 n
+
+  pub setup-passes : T a → T b → first (setupChecks a b) 0 ≡ 0
+  unfolding setupChecks
+  setup-passes t l = all-fail (setupChecks a b) 0 (not-not-in a t, (not-not-in b l, tt))
+
+  -- a reset that is not refused
+  pub passed-setup : first (setupChecks a b) 0 ≡ 0 → T a
+  unfolding setupChecks
+  passed-setup e = not-not a (none-holds 0 (setupChecks a b) 0 tt e .0 .0)
+
+  module _ (c : Bool) where
+    pub check-1 : T (not a) → first (stateChecks a b c) 0 ≡ 1
+    unfolding setupChecks stateChecks
+    check-1 n = cond-yes {A = ℕ} (not a) 1 _ n
+
+    pub check-2 : T a → T (not b) → first (stateChecks a b c) 0 ≡ 2
+    unfolding setupChecks stateChecks
+    check-2 t n = cond-no {A = ℕ} (not a) 1 _ (not-not-in a t) ∙ cond-yes {A = ℕ} (not b) 2 _ n
+
+    pub check-3 : T a → T b → T (not c) → first (stateChecks a b c) 0 ≡ 3
+    unfolding setupChecks stateChecks
+    check-3 t l n =
+        cond-no {A = ℕ} (not a) 1 _ (not-not-in a t) ∙ cond-no {A = ℕ} (not b) 2 _ (not-not-in b l) ∙ cond-yes {A = ℕ} (not c) 3 0 n
+
+    pub state-passes : Passing a b c → (rest : ℕ) → first (stateChecks a b c) rest ≡ rest
+    unfolding setupChecks stateChecks
+    state-passes p rest =
+        all-fail (stateChecks a b c) rest (not-not-in a (p .setup), (not-not-in b (p .lengths), (not-not-in c (p .wellformed), tt)))
+
+    -- a call that is not refused
+    pub passed-state : (rest : ℕ) → first (stateChecks a b c) rest ≡ 0 → rest ≡ 0
+    unfolding setupChecks stateChecks
+    passed-state rest e = none-holds 0 (stateChecks a b c) rest tt e .1
 
 -- ---- the STATUS of an operation
 

@@ -5,20 +5,24 @@ use mathlib.Core.List.{List, [], _∷_, _++_, List·Memᴰ, List·Memᴰ·cases-
 use Prim.Native.Nat.{ℕ, _%_, _<_, _^_}
 use native.Mathlib.Omega.{arith}
 use lib.Dec.{eqb}
+use Rattle.runs.proofs.Laws.{state-one}
+use Rattle.runs.proofs.Settings.{stands}
 use Rattle.access.specs.Access as access
+use Rattle.access.specs.Pairs.{Setting}
 use mathlib.Core.Bool.{cond}
 use Rattle.tables.proofs.Tests.{cases}
 use Rattle.bandwidth_model.specs.Rules.{Setup}
 use Rattle.bandwidth_model.specs.Calls.{Call, reset, read, write, done, value}
 use Rattle.bandwidth_model.specs.Model.{State, register, readAt, step}
-use Rattle.bandwidth_model.specs.Ledger.{Window, Ledger}
-use Rattle.bandwidth_model.specs.Runs.{after, stateAfter, ledgerAfter, answerAfter, eventAfter}
-use Rattle.bandwidth_model.specs.Claim.{Fair, Setting, Stands, Claim, Demand3}
+use Rattle.bandwidth_model.specs.Ledger.{Window, Ledger, started}
+use Rattle.bandwidth_model.specs.Runs.{stateAfter, ledgerAfter}
+use Rattle.bandwidth_model.specs.Claim.{Fair, Stands, Claim, Demand3}
 use Rattle.bandwidth_model.proofs.Words.{bw-lt}
 use Rattle.bandwidth_model.proofs.Invariant.{Inv, fair-now}
 use Rattle.bandwidth_model.proofs.Steps.{value-is}
-use Rattle.bandwidth_model.proofs.Lists.{inv-after, state-one, state-more}
-use Rattle.bandwidth_model.proofs.ReadBack.{Back, back, back-later, read-back}
+use Rattle.bandwidth_model.proofs.Lists.{inv-first, inv-after}
+use Rattle.bandwidth_model.proofs.Kept.{Back}
+use Rattle.bandwidth_model.proofs.ReadBack.{standing, read-back}
 
 module _ (s : State) (l : Ledger) (i : Inv s l) where
   window-fair : (w : Window) → List·Memᴰ w (l .now ∷ l .closed) → Fair w
@@ -42,17 +46,11 @@ unfolding access.part
 low-part size w h = cases (λ x. cond x w (w % 2 ^ 32) ≡ w) (eqb size 8) (λ t. refl) (λ t. omega arith)
 
 module _ (s : State) (su : Setup) (e : step s (reset su) .answer ≡ done) where
-  stands : (before between : List Call) (c : Call) (p : Setting) → Stands s su before between c p
+  stands-back : (before between : List Call) (c : Call) (p : Setting) → Stands s su before between c p
       → Back (ledgerAfter s su before) p (stateAfter s su (before ++ c ∷ between))
-  unfolding eventAfter answerAfter
-  stands before between c p k =
-      rw (state-more s su e before between c)
-      (back-later (ledgerAfter s su before) p (step (stateAfter s su before) c .state) (ledgerAfter s su (before ++ c ∷ []))
-      (rw (state-one s su e before c) at (inv-after s su e (before ++ c ∷ [])))
-      (back (stateAfter s su before) (ledgerAfter s su before) (inv-after s su e before) c p (k .made)) between (rw (state-one s su e before c) at (k .kept)))
+  stands-back before between c p k = stands standing reset started s su (inv-first s su e) before between c p (k .made) (k .kept)
 
   claim : (cs : List Call) → Claim s su cs
-  unfolding answerAfter
   claim cs = record {
     windows = window-fair (stateAfter s su cs) (ledgerAfter s su cs) (inv-after s su e cs);
     configured = λ before after q. sym (ap (λ (k : Ledger). k .configured) (inv-after s su e before .same));
@@ -61,7 +59,9 @@ module _ (s : State) (su : Setup) (e : step s (reset su) .answer ≡ done) where
     sums = λ before after q.
         let i = inv-after s su e before in
         rw (ap (λ (k : Ledger). k .setup) (i .same)) (i .good .configured .bounded);
-    kept = λ before between after c p q k. stands before between c p k .word;
+    kept = λ before between after c p q k.
+        let b = stands-back before between c p k in
+        rw (ap (λ (x : Setup). x .na) (b .setup)) at (b .stands .word);
     readBack = λ before between after c p size v size′ x q k o er ea a r.
         let l = before ++ c ∷ between in
         let w = write size 24 v in
@@ -70,8 +70,8 @@ module _ (s : State) (su : Setup) (e : step s (reset su) .answer ≡ done) where
         bw-read t (ledgerAfter s su (l ++ w ∷ [])) i size′ 32 x refl r
         ∙ ap (access.part size′ 32) (sym (bw-same t (ledgerAfter s su (l ++ w ∷ [])) i))
         ∙ low-part size′ (t .alloc .bw) (rw (i .good .bw) (bw-lt (t .alloc .bw)))
-        ∙ ap (λ (y : State). y .alloc .bw) (state-one s su e l w)
-        ∙ read-back (ledgerAfter s su before) p (stateAfter s su l) (stands before between c p k) size v o er ea a;
+        ∙ ap (λ (y : State). y .alloc .bw) (state-one step reset s su l w)
+        ∙ read-back (ledgerAfter s su before) p (stateAfter s su l) (stands-back before between c p k) size v o er ea a;
   }
 
 pub demand3 : Demand3

@@ -1,27 +1,25 @@
 -- What every call keeps: the state is well formed, the ledger is the one built from it, and every window is fair.
 use mathlib.Core.Path.{_≡_, refl, sym, subst⁻¹, _∙_}
-use mathlib.Core.Bool.{not, cond, _||_}
+use mathlib.Core.Bool.{cond}
 use mathlib.Core.Logic.{_⊎_, inl, inr}
 use mathlib.Core.List.{List, _∷_, List·Memᴰ, List·Memᴰ·cases-cons}
 use Prim.Native.Nat.{ℕ, _+_, _-_, _≤_, _<_, min}
 use native.Mathlib.Nat.{add-zero}
 use native.Mathlib.Omega.{arith}
-use lib.Dec.{T, leb, eqb, eqb→eq, nleb→lt}
+use lib.Dec.{T, leb, eqb, nleb→lt}
 use lib.ListN.{length, getD, set, replicate, length-replicate}
 use Rattle.fields.specs.Layout.{get}
 use Rattle.fields.specs.Registers as reg
 use Rattle.fields.specs.Registers.{heldAt}
-use Rattle.access.specs.Access as access
 use Rattle.access.specs.Pairs.{knownAt}
-use Rattle.access.specs.Checks.{first}
-use Rattle.tables.proofs.Tests.{cases, nor-l, not-not, none-test, none-rest, cond-same}
+use Rattle.tables.proofs.Tests.{cases, nor-l, cond-same}
 use Rattle.monitor.specs.Monitor.{cleared, writeMon, counted}
 use Rattle.monitor.specs.Bytes.{lastEvent, countsRequest, added}
 use Rattle.bandwidth_model.specs.Rules.{Setup, setupOk, pairs, weightOf, isHolder, bwWord, resetTable, opOf, rcidOf, atOf, allocStatus, Holder, nobody, held, holderOf, poolOf}
-use Rattle.bandwidth_model.specs.Calls.{Call, reset, read, write, request, endWindow}
-use Rattle.bandwidth_model.specs.Model.{State, Usage, allocWord, opened, afterReset, afterWindow, writeAlloc, writeBw, withAlloc, withMonitor, writeAt, fromReservation, fromPool, grantOf, grantSum, spend, serve, serveFrom, requested, perform, lengthsOk, wellFormed, setupChecks, stateChecks, argumentChecks, checks, refusal, refuse, step}
+use Rattle.bandwidth_model.specs.Calls.{Call, reset, read, write, request, endWindow, refused}
+use Rattle.bandwidth_model.specs.Model.{State, Usage, allocWord, opened, afterReset, afterWindow, writeAlloc, writeBw, withAlloc, withMonitor, writeAt, fromReservation, fromPool, grantOf, grantSum, spend, serve, serveFrom, requested, perform, argumentChecks, refusal, step}
 use Rattle.bandwidth_model.specs.Ledger.{Window, Ledger, openWindow, accepted, bytesOf, noteGrant, noteRequest, noteAlloc, noteBw, noteWrite, noteEnd, startedAfter, noteCall, note}
-use Rattle.bandwidth_model.specs.Claim.{Fair}
+use Rattle.bandwidth_model.specs.Claim.{Fair, isReset}
 use Rattle.bandwidth_model.proofs.Words.{bw-0, bw-bw}
 use Rattle.bandwidth_model.proofs.Setup.{ranges}
 use Rattle.bandwidth_model.proofs.Settings.{TableFacts}
@@ -32,6 +30,11 @@ use Rattle.monitor.proofs.Counters.{added-ok}
 use Rattle.monitor.proofs.Monitor.{MonitorFacts, cleared-facts, write-facts, write-lengths, counted-facts, counted-lengths}
 use Rattle.bandwidth_model.proofs.Control.{alloc-own, status-lt}
 use Rattle.access.proofs.Pairs.{known-lt}
+use Rattle.access.proofs.Checks.{none-holds}
+use Rattle.runs.specs.Runs.{_answers_, event}
+use Rattle.runs.proofs.Steps.{step-by}
+use Rattle.runs.proofs.Checks.{passed-arguments, passed-reset}
+use Rattle.bandwidth_model.proofs.Steps.{checking}
 use Rattle.bandwidth_model.proofs.Window.{Spent, spent-none, spent-more, fair}
 
 abbrev pub Monitored : State → Type 0
@@ -107,23 +110,12 @@ no-pool : (su : Setup) (u : Usage) (i rest : ℕ) → weightOf (getD (u .active)
 unfolding fromPool
 no-pool su u i rest e = rw e refl
 
--- an accepted call passed the checks of the state
-passed : (s : State) (rest : ℕ) → first (stateChecks s) rest ≡ 0 → rest ≡ 0
-unfolding stateChecks setupChecks
-passed s rest e =
-    let third = cond (not (wellFormed s)) 3 rest in
-    let second = cond (not (lengthsOk (s .setup) s)) 2 third in
-    none-rest (not (wellFormed s)) 2 rest (none-rest (not (lengthsOk (s .setup) s)) 1 third (none-rest (not (setupOk (s .setup))) 0 second e))
-
 known-rcid : (s : State) (rcid mcid at kind bytes : ℕ) → refusal s (request rcid mcid at kind bytes) ≡ 0 → rcid < s .setup .nr
-unfolding refusal checks argumentChecks stateChecks setupChecks
+unfolding argumentChecks isReset
 known-rcid s rcid mcid at kind bytes e =
-    let foreign = leb (s .setup .nr) rcid || leb (s .setup .nm) mcid in
-    nleb→lt (s .setup .nr) rcid (nor-l (leb (s .setup .nr) rcid) (leb (s .setup .nm) mcid) (none-test foreign 6 0 (passed s (cond foreign 7 0) e)))
-
-pub accepted-setup : (s : State) (su : Setup) → refusal s (reset su) ≡ 0 → T (setupOk su)
-unfolding refusal checks setupChecks
-accepted-setup s su e = not-not (setupOk su) (none-test (not (setupOk su)) 0 (cond (not (lengthsOk su s)) 2 0) e)
+    let c = request rcid mcid at kind bytes in
+    let f = none-holds 0 (argumentChecks (s .setup) c) 0 tt (passed-arguments checking s c tt e) .0 in
+    nleb→lt (s .setup .nr) rcid (nor-l (leb (s .setup .nr) rcid) (leb (s .setup .nm) mcid) (f .0))
 
 -- ---- every other call
 
@@ -286,9 +278,9 @@ module _ {s : State} {asked granted : List ℕ} {sum : ℕ} {closed : List Windo
   serve-inv rcid mcid at kind bytes (held i) t = kept (held-good mcid at kind bytes i t)
 
   perform-inv : (c : Call) → refusal s c ≡ 0
-      → Inv (perform s c .state) (note (ledgerBy s asked granted sum closed) (record { call = c; answer = perform s c .answer }))
+      → Inv (perform s c .state) (note (ledgerBy s asked granted sum closed) (c answers (perform s c .answer)))
   unfolding perform note accepted noteCall bytesOf startedAfter openWindow afterReset opened noteEnd afterWindow requested noteRequest serveFrom serve
-  perform-inv (reset su) e = kept (reset-good su (windowBy s asked granted sum ∷ closed) (accepted-setup s su e) past-more)
+  perform-inv (reset su) e = kept (reset-good su (windowBy s asked granted sum ∷ closed) (passed-reset checking s su e) past-more)
   perform-inv (read size offset) e = kept g
   perform-inv (write size offset v) e = write-inv offset v
   perform-inv (request rcid mcid at kind bytes) e =
@@ -297,13 +289,11 @@ module _ {s : State} {asked granted : List ℕ} {sum : ℕ} {closed : List Windo
       (found-holds (s .setup) (s .usage .active) rcid a (g .active) (known-rcid s rcid mcid at kind bytes e) (known-lt (s .setup .na) at (ranges (s .setup) (g .setup) .na-low)))
   perform-inv endWindow e = kept end-good
 
-  good-step : (c : Call) → Inv (step s c .state) (note (ledgerBy s asked granted sum closed) (record { call = c; answer = step s c .answer }))
-  unfolding step refuse note accepted
+  good-step : (c : Call) → Inv (step s c .state) (note (ledgerBy s asked granted sum closed) (event step s c))
+  unfolding note accepted
   good-step c =
-      let l = ledgerBy s asked granted sum closed in
-      cases (λ x. Inv (cond x (perform s c) (refuse s (refusal s c)) .state) (note l (record { call = c; answer = cond x (perform s c) (refuse s (refusal s c)) .answer })))
-      (eqb (refusal s c) 0) (λ t. perform-inv c (eqb→eq (refusal s c) 0 t)) (λ t. kept g)
+      step-by refusal perform refused s c (λ o. Inv (o .state) (note (ledgerBy s asked granted sum closed) (c answers (o .answer)))) (perform-inv c) (λ t. kept g)
 
-pub inv-step : (s : State) (l : Ledger) → Inv s l → (c : Call) → Inv (step s c .state) (note l (record { call = c; answer = step s c .answer }))
+pub inv-step : (s : State) (l : Ledger) → Inv s l → (c : Call) → Inv (step s c .state) (note l (event step s c))
 inv-step s l v c =
-    subst⁻¹ (λ (k : Ledger). Inv (step s c .state) (note k (record { call = c; answer = step s c .answer }))) (v .same) (good-step (v .good) c)
+    subst⁻¹ (λ (k : Ledger). Inv (step s c .state) (note k (event step s c))) (v .same) (good-step (v .good) c)

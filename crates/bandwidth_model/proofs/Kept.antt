@@ -1,109 +1,61 @@
--- A setting stays until its pair is set again or a reset comes, and reads back.
-use mathlib.Core.Path.{_≡_, refl, sym, subst, subst⁻¹, _∙_}
-use mathlib.Core.Bool.{Bool, true, false, not, cond, _&&_, _||_}
-use mathlib.Core.List.{List, [], _∷_}
-use Prim.Native.Nat.{ℕ, _<_}
+-- A setting that stands in the configured table stays there until its pair is set again or a reset comes.
+use mathlib.Core.Path.{_≡_, subst}
+use mathlib.Core.Bool.{not, cond, _&&_}
+use mathlib.Core.List.{List}
+use Prim.Native.Nat.{ℕ}
 use lib.Dec.{T, eqb}
-use lib.ListN.{set}
-use Rattle.access.specs.Access as access
-use Rattle.access.specs.Pairs.{pair, wordAt}
-use Rattle.tables.proofs.Tests.{cases, and-l, and-r, and-in, nor-l, nor-r, not-both, eqb-in, cond-yes, nand-r}
+use Rattle.access.specs.Pairs.{Setting, setsPair}
+use Rattle.tables.proofs.Tests.{cases}
 use Rattle.monitor.specs.Monitor.{writeMon}
 use Rattle.monitor.specs.Bytes.{lastEvent}
 use Rattle.bandwidth_model.specs.Rules.{Setup, stored, configLimit, rcidOf, atOf, allocDone, configuredAfter}
 use Rattle.bandwidth_model.specs.Calls.{Call, reset, read, write, request, endWindow}
-use Rattle.bandwidth_model.specs.Model.{State, afterWindow, writeAlloc, writeBw, withAlloc, withMonitor, writeAt, serve, serveFrom, requested, perform, refusal, refuse, step}
-use Rattle.bandwidth_model.specs.Ledger.{Event, Window, Ledger, accepted, note}
-use Rattle.bandwidth_model.specs.Claim.{Setting, settingsBy, settings, setsPair, isReset, touches, untouched}
-use Rattle.bandwidth_model.specs.Runs.{after, events}
+use Rattle.bandwidth_model.specs.Model.{State, afterWindow, writeAlloc, writeBw, withAlloc, withMonitor, writeAt, serve, serveFrom, requested, perform}
+use Rattle.bandwidth_model.specs.Ledger.{Window, Ledger}
+use Rattle.bandwidth_model.specs.Claim.{settingsBy, isReset}
 use Rattle.bandwidth_model.proofs.Accepted.{accepted-limit}
-use Rattle.access.proofs.Pairs.{pair-at, pair-rcid, word-set-other}
-use Rattle.bandwidth_model.proofs.Invariant.{Good, ledgerBy, Inv, inv-step}
-use Rattle.bandwidth_model.proofs.Steps.{perform-accepted}
+use Rattle.access.proofs.Pairs.{Stored, stored-other, sets-one}
+use Rattle.bandwidth_model.proofs.Invariant.{ledgerBy, Inv}
 
--- ---- a call that does not touch a pair keeps its word
+-- the setting p, made with the ledger l, stands in the state s
+pub record Back (l : Ledger) (p : Setting) (s : State) : Type 0 where
+  pub setup : s .setup ≡ l .setup
+  pub stands : Stored (s .setup .nr) (s .setup .na) (s .alloc .configured) p
 
-pub record Same (s s′ : State) (rcid at : ℕ) : Type 0 where
-  pub word : wordAt (s .setup .na) (s′ .alloc .configured) rcid at ≡ wordAt (s .setup .na) (s .alloc .configured) rcid at
-  pub setup : s′ .setup ≡ s .setup
+-- the setting that a value written to alloc_ctl names
+abbrev pub settingOf : Setup → ℕ → ℕ → Setting
+settingOf su bw v = record { rcid = rcidOf v; at = atOf su v; word = stored bw }
 
-same-table : (su : Setup) (conf : List ℕ) (bw v rcid at : ℕ) → at < su .na → T (not (allocDone su conf bw configLimit v && eqb (rcidOf v) rcid && eqb (atOf su v) at))
-    → wordAt (su .na) (configuredAfter su conf bw v) rcid at ≡ wordAt (su .na) conf rcid at
-unfolding configuredAfter
-same-table su conf bw v rcid at h = by (allocDone su conf bw configLimit v) refl
-  where
-    by : (x : Bool) → allocDone su conf bw configLimit v ≡ x → T (not (x && eqb (rcidOf v) rcid && eqb (atOf su v) at))
-        → wordAt (su .na) (cond x (set conf (pair (su .na) (rcidOf v) (atOf su v)) (stored bw)) conf) rcid at ≡ wordAt (su .na) conf rcid at
-    by true e n =
-        let hv = accepted-limit su conf bw v (subst⁻¹ T e tt) .at-low in
-        word-set-other (su .na) conf (pair (su .na) (rcidOf v) (atOf su v)) (stored bw) rcid at
-        (λ q. not-both (eqb (rcidOf v) rcid && eqb (atOf su v) at)
-        (and-in (eqb (rcidOf v) rcid) (eqb (atOf su v) at)
-        (eqb-in (rcidOf v) rcid (sym (pair-rcid (su .na) rcid at (rcidOf v) (atOf su v) h hv q))) (eqb-in (atOf su v) at (sym (pair-at (su .na) rcid at (rcidOf v) (atOf su v) h hv q)))) n)
-    by false e n = refl
+module _ (l : Ledger) (p : Setting) (s : State) (b : Back l p s) where
+  kept-write : (offset v : ℕ)
+      → T (not (eqb offset 24 && allocDone (s .setup) (s .alloc .configured) (s .alloc .bw) configLimit v && eqb (rcidOf v) (p .rcid) && eqb (atOf (s .setup) v) (p .at)))
+      → Back l p (writeAt s offset v)
+  unfolding writeAt withAlloc writeAlloc writeBw withMonitor configuredAfter
+  kept-write offset v =
+      let su = s .setup in
+      let conf = s .alloc .configured in
+      let bw = s .alloc .bw in
+      let done = allocDone su conf bw configLimit v in
+      let x = withAlloc s (writeAlloc su bw conf v) in
+      let y = withAlloc s (writeBw (s .alloc) v) in
+      let m = withMonitor s (writeMon (su .na) (su .nm) lastEvent (s .monitor) v) in
+      cases (λ t. T (not (t && done && eqb (rcidOf v) (p .rcid) && eqb (atOf su v) (p .at))) → Back l p (cond t x (cond (eqb offset 32) y (cond (eqb offset 8) m s)))) (eqb offset 24)
+      (λ t n. record { setup = b .setup; stands = stored-other (su .nr) (su .na) conf (settingOf su bw v) p done (λ d. accepted-limit su conf bw v d .at-low) n (b .stands) })
+      (λ t n. cases (λ t. Back l p (cond t y (cond (eqb offset 8) m s))) (eqb offset 32)
+      (λ t. record { setup = b .setup; stands = b .stands })
+      (λ t. cases (λ t. Back l p (cond t m s)) (eqb offset 8) (λ t. record { setup = b .setup; stands = b .stands }) (λ t. b)))
 
-same-write : (s : State) (offset v rcid at : ℕ) → at < s .setup .na
-    → T (not (eqb offset 24 && allocDone (s .setup) (s .alloc .configured) (s .alloc .bw) configLimit v && eqb (rcidOf v) rcid && eqb (atOf (s .setup) v) at))
-    → Same s (writeAt s offset v) rcid at
-unfolding writeAt withAlloc writeAlloc writeBw withMonitor
-same-write s offset v rcid at h =
-    let done = allocDone (s .setup) (s .alloc .configured) (s .alloc .bw) configLimit v in
-    let a = withAlloc s (writeAlloc (s .setup) (s .alloc .bw) (s .alloc .configured) v) in
-    let b = withAlloc s (writeBw (s .alloc) v) in
-    let m = withMonitor s (writeMon (s .setup .na) (s .setup .nm) lastEvent (s .monitor) v) in
-    cases (λ x. T (not (x && done && eqb (rcidOf v) rcid && eqb (atOf (s .setup) v) at)) → Same s (cond x a (cond (eqb offset 32) b (cond (eqb offset 8) m s))) rcid at) (eqb offset 24)
-    (λ t n. record { word = same-table (s .setup) (s .alloc .configured) (s .alloc .bw) v rcid at h n; setup = refl })
-    (λ t n. cases (λ x. Same s (cond x b (cond (eqb offset 8) m s)) rcid at) (eqb offset 32)
-    (λ t. record { word = refl; setup = refl })
-    (λ t. cases (λ x. Same s (cond x m s) rcid at) (eqb offset 8) (λ t. record { word = refl; setup = refl }) (λ t. record { word = refl; setup = refl })))
-
--- the one setting that a write may make
-sets-one : (x : Bool) (rcid at : ℕ) (p : Setting) → T (not (setsPair rcid at (cond x (p ∷ []) []))) → T (not (x && eqb (p .rcid) rcid && eqb (p .at) at))
-unfolding setsPair
-sets-one true rcid at p n = nor-l (eqb (p .rcid) rcid && eqb (p .at) at) false n
-sets-one false rcid at p n = tt
-
-module _ {s : State} {asked granted : List ℕ} {sum : ℕ} {closed : List Window} (g : Good s asked granted sum closed) where
-  same-perform : (c : Call) (rcid at : ℕ) → at < s .setup .na → T (not (isReset c)) → T (not (setsPair rcid at (settingsBy (ledgerBy s asked granted sum closed) c)))
-      → Same s (perform s c .state) rcid at
+  kept-perform : (asked granted : List ℕ) (sum : ℕ) (closed : List Window) (c : Call) → T (not (isReset c)) → T (not (setsPair (p .rcid) (p .at) (settingsBy (ledgerBy s asked granted sum closed) c))) → Back l p (perform s c .state)
   unfolding perform isReset settingsBy requested serveFrom serve afterWindow
-  same-perform (reset su) rcid at h i n = absurd i
-  same-perform (read size offset) rcid at h i n = record { word = refl; setup = refl }
-  same-perform (write size offset v) rcid at h i n =
-      same-write s offset v rcid at h
-      (sets-one (eqb offset 24 && allocDone (s .setup) (s .alloc .configured) (s .alloc .bw) configLimit v) rcid at (record { rcid = rcidOf v; at = atOf (s .setup) v; word = stored (s .alloc .bw) }) n)
-  same-perform (request r m a k b) rcid at h i n = record { word = refl; setup = refl }
-  same-perform endWindow rcid at h i n = record { word = refl; setup = refl }
+  kept-perform asked granted sum closed (reset su) i n = absurd i
+  kept-perform asked granted sum closed (read size offset) i n = b
+  kept-perform asked granted sum closed (write size offset v) i n =
+      kept-write offset v
+      (sets-one (eqb offset 24 && allocDone (s .setup) (s .alloc .configured) (s .alloc .bw) configLimit v) (settingOf (s .setup) (s .alloc .bw) v) (p .rcid) (p .at) n)
+  kept-perform asked granted sum closed (request r m a k d) i n = record { setup = b .setup; stands = b .stands }
+  kept-perform asked granted sum closed endWindow i n = record { setup = b .setup; stands = b .stands }
 
-  same-step : (c : Call) (rcid at : ℕ) → at < s .setup .na
-      → T (not (touches (ledgerBy s asked granted sum closed) rcid at (record { call = c; answer = step s c .answer }))) → Same s (step s c .state) rcid at
-  unfolding step refuse touches settings accepted
-  same-step c rcid at h =
-      let l = ledgerBy s asked granted sum closed in
-      cases (λ x. T (not ((accepted (cond x (perform s c) (refuse s (refusal s c)) .answer) && isReset c)
-      || setsPair rcid at (cond (accepted (cond x (perform s c) (refuse s (refusal s c)) .answer)) (settingsBy l c) [])))
-      → Same s (cond x (perform s c) (refuse s (refusal s c)) .state) rcid at)
-      (eqb (refusal s c) 0)
-      (λ t n. let y = accepted (perform s c .answer) in
-      let z = setsPair rcid at (cond y (settingsBy l c) []) in
-      same-perform c rcid at h (nand-r y (isReset c) (nor-l (y && isReset c) z n) (perform-accepted s c))
-      (subst (λ (k : List Setting). T (not (setsPair rcid at k))) (cond-yes y (settingsBy l c) [] (perform-accepted s c)) (nor-r (y && isReset c) z n)))
-      (λ t n. record { word = refl; setup = refl })
-
-same-inv : (s : State) (l : Ledger) → Inv s l → (c : Call) (rcid at : ℕ) → at < s .setup .na
-    → T (not (touches l rcid at (record { call = c; answer = step s c .answer }))) → Same s (step s c .state) rcid at
-same-inv s l i c rcid at h n =
-    same-step (i .good) c rcid at h (subst (λ (k : Ledger). T (not (touches k rcid at (record { call = c; answer = step s c .answer })))) (i .same) n)
-
-pub same-all : (cs : List Call) (s : State) (l : Ledger) → Inv s l → (rcid at : ℕ) → at < s .setup .na → T (untouched l rcid at (events s cs)) → Same s (after s cs) rcid at
-unfolding untouched events after
-same-all [] s l i rcid at h t = record { word = refl; setup = refl }
-same-all (c ∷ cs) s l i rcid at h t =
-    let e : Event = record { call = c; answer = step s c .answer } in
-    let rest = untouched (note l e) rcid at (events (step s c .state) cs) in
-    let k = same-inv s l i c rcid at h (and-l (not (touches l rcid at e)) rest t) in
-    let m = same-all cs (step s c .state) (note l e) (inv-step s l i c) rcid at (rw (k .setup) h) (and-r (not (touches l rcid at e)) rest t) in
-    record {
-      word = subst (λ (u : Setup). wordAt (u .na) (after (step s c .state) cs .alloc .configured) rcid at ≡ wordAt (u .na) (step s c .state .alloc .configured) rcid at) (k .setup) (m .word) ∙ k .word;
-      setup = m .setup ∙ k .setup;
-    }
+pub kept-by : (s : State) (n : Ledger) → Inv s n → (l : Ledger) (p : Setting) → Back l p s → (c : Call) → T (not (isReset c))
+    → T (not (setsPair (p .rcid) (p .at) (settingsBy n c))) → Back l p (perform s c .state)
+kept-by s n i l p b c r t =
+    kept-perform l p s b (i .asked) (i .granted) (i .sum) (i .closed) c r (subst (λ (k : Ledger). T (not (setsPair (p .rcid) (p .at) (settingsBy k c)))) (i .same) t)

@@ -1,17 +1,20 @@
 -- Demand 3: one claim about any list of calls that an accepted reset opens, by the ledger.
 use mathlib.Core.Path.{_≡_}
-use mathlib.Core.Bool.{Bool, true, false, not, cond, _&&_, _||_}
+use mathlib.Core.Bool.{Bool, true, false, cond, _&&_}
 use mathlib.Core.List.{List, [], _∷_, _++_, List·Memᴰ}
 use Prim.Native.Nat.{ℕ, _+_, _*_, _≤_, _<_, min}
-use lib.Dec.{eqb, T}
+use lib.Dec.{T}
 use lib.ListN.{getD}
+use Rattle.runs.specs.Runs.{events}
+use Rattle.runs.specs.Runs as runs
+use Rattle.runs.specs.Settings as shared
 use Rattle.access.specs.Access as access
-use Rattle.access.specs.Pairs.{pair, wordAt}
+use Rattle.access.specs.Pairs.{pair, wordAt, Setting}
 use Rattle.bandwidth_model.specs.Rules.{Setup, rbwbOf, weightOf, stored, isHolder, total, configLimit, readLimit, opOf, rcidOf, atOf, allocDone, poolOf}
 use Rattle.bandwidth_model.specs.Calls.{Call, reset, read, write, request, endWindow, done, value}
 use Rattle.bandwidth_model.specs.Model.{State, step}
 use Rattle.bandwidth_model.specs.Ledger.{Event, Window, Ledger, accepted, note}
-use Rattle.bandwidth_model.specs.Runs.{events, stateAfter, ledgerAfter, answerAfter, eventAfter}
+use Rattle.bandwidth_model.specs.Runs.{stateAfter, ledgerAfter, answerAfter, eventAfter}
 
 -- ---- what is claimed of a window
 
@@ -34,11 +37,6 @@ pub record Fair (w : Window) : Type 0 where
 
 -- ---- accepted settings, and what ends one
 
-pub record Setting : Type 0 where
-  pub rcid : ℕ
-  pub at : ℕ
-  pub word : ℕ
-
 -- the settings that an accepted call makes, by the ledger as it stood before the call
 unfoldable pub settingsBy : Ledger → Call → List Setting
 settingsBy l (reset su) = []
@@ -49,12 +47,9 @@ settingsBy l (write size offset v) =
 settingsBy l (request rcid mcid at kind bytes) = []
 settingsBy l endWindow = []
 
-unfoldable pub settings : Ledger → Event → List Setting
-settings l e = cond (accepted (e .answer)) (settingsBy l (e .call)) []
-
-unfoldable pub setsPair : ℕ → ℕ → List Setting → Bool
-setsPair rcid at [] = false
-setsPair rcid at (p ∷ ps) = (eqb (p .rcid) rcid && eqb (p .at) at) || setsPair rcid at ps
+-- the settings of an event, none where it is refused
+abbrev pub settings : Ledger → Event → List Setting
+settings l e = shared.settings accepted settingsBy l e
 
 unfoldable pub isReset : Call → Bool
 isReset (reset su) = true
@@ -64,20 +59,19 @@ isReset (request rcid mcid at kind bytes) = false
 isReset endWindow = false
 
 -- the event sets the pair, or is an accepted reset
-unfoldable pub touches : Ledger → ℕ → ℕ → Event → Bool
-touches l rcid at e = (accepted (e .answer) && isReset (e .call)) || setsPair rcid at (settings l e)
+abbrev pub touches : ℕ → ℕ → Ledger → Event → Bool
+touches rcid at l e = shared.touches accepted isReset settingsBy rcid at l e
 
--- no event of the list does
-unfoldable pub untouched : Ledger → ℕ → ℕ → List Event → Bool
-untouched l rcid at [] = true
-untouched l rcid at (e ∷ es) = not (touches l rcid at e) && untouched (note l e) rcid at es
+-- no event of the list does, by the ledger as it stood before the list
+abbrev pub untouched : ℕ → ℕ → Ledger → List Event → Bool
+untouched rcid at l es = runs.untouched note (touches rcid at) l es
 
 -- ---- the claim; s is any record and tables, su the set-up of the reset that opens the list cs
 
 -- the setting p, made by the call c after before, still stands after between
 pub record Stands (s : State) (su : Setup) (before between : List Call) (c : Call) (p : Setting) : Type 0 where
   pub made : List·Memᴰ p (settings (ledgerAfter s su before) (eventAfter s su before c))
-  pub kept : T (untouched (ledgerAfter s su (before ++ c ∷ [])) (p .rcid) (p .at) (events (stateAfter s su (before ++ c ∷ [])) between))
+  pub kept : T (untouched (p .rcid) (p .at) (ledgerAfter s su (before ++ c ∷ [])) (events step (stateAfter s su (before ++ c ∷ [])) between))
 
 pub record Claim (s : State) (su : Setup) (cs : List Call) : Type 0 where
   -- every window, closed or open

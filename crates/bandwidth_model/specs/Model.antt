@@ -7,7 +7,9 @@ use lib.ListN.{length, getD, set, take, drop, replicate}
 use Rattle.fields.specs.Layout.{get, pack}
 use Rattle.fields.specs.Registers as reg
 use Rattle.tables.specs.Below.{allBelow}
+use Rattle.runs.specs.Runs as runs
 use Rattle.access.specs.Checks.{Check, _gives_, first}
+use Rattle.access.specs.Checks as shared
 use Rattle.access.specs.Access as access
 use Rattle.access.specs.Pairs.{pair, wordAt, knownAt}
 use Rattle.monitor.specs.Monitor.{Monitor, cleared, writeMon, counted, monitorOk}
@@ -36,9 +38,8 @@ pub record State : Type 0 where
   pub usage : Usage
   pub monitor : Monitor
 
-pub record Outcome : Type 0 where
-  pub answer : Answer
-  pub state : State
+abbrev pub Outcome : Type 0
+Outcome = runs.Outcome State Answer
 
 -- ---- well formed (document 01: lawful)
 
@@ -88,11 +89,12 @@ argumentChecks su (request rcid mcid at kind bytes) = ((leb (su .nr) rcid || leb
 argumentChecks su endWindow = []
 
 -- checks 1 and 2, of a set-up and the lengths of the lent tables
-unfoldable pub setupChecks : Setup → State → List Check
-setupChecks su s = (not (setupOk su) gives 1) ∷ (not (lengthsOk su s) gives 2) ∷ []
+abbrev pub setupChecks : Setup → State → List Check
+setupChecks su s = shared.setupChecks (setupOk su) (lengthsOk su s)
 
-unfoldable pub stateChecks : State → List Check
-stateChecks s = setupChecks (s .setup) s ++ (not (wellFormed s) gives 3) ∷ []
+-- checks 1 to 3
+abbrev pub stateChecks : State → List Check
+stateChecks s = shared.stateChecks (setupOk (s .setup)) (lengthsOk (s .setup) s) (wellFormed s)
 
 unfoldable pub checks : State → Call → List Check
 checks s (reset su) = setupChecks su s
@@ -217,12 +219,9 @@ perform s (write size offset v) = record { answer = done; state = writeAt s offs
 perform s (request rcid mcid at kind bytes) = requested s rcid mcid at kind bytes
 perform s endWindow = record { answer = done; state = afterWindow s }
 
--- a refusal returns its number and changes nothing
-unfoldable pub refuse : State → ℕ → Outcome
-refuse s n = record { answer = refused n; state = s }
-
-unfoldable pub step : State → Call → Outcome
-step s c = cond (eqb (refusal s c) 0) (perform s c) (refuse s (refusal s c))
+-- a refusal returns its number and changes nothing; any other call is performed
+abbrev pub step : State → Call → Outcome
+step s c = runs.step refusal perform refused s c
 
 -- ---- the reader: the configured words of one RCID, none where refusal 1, 2 or 7 applies
 

@@ -1,24 +1,28 @@
 -- What every call keeps: the state is well formed, and the ledger is the one built from it.
 use mathlib.Core.Path.{_≡_, refl, subst⁻¹, _∙_}
-use mathlib.Core.Bool.{not, cond}
+use mathlib.Core.Bool.{cond}
 use Prim.Native.Nat.{ℕ}
-use lib.Dec.{T, eqb, eqb→eq}
+use lib.Dec.{T, eqb}
 use lib.ListN.{length, getD}
 use Rattle.fields.specs.Layout.{get}
 use Rattle.fields.specs.Registers as reg
+use Rattle.runs.specs.Runs.{_answers_, event}
+use Rattle.runs.proofs.Steps.{step-by}
+use Rattle.runs.proofs.Checks.{passed-reset}
 use Rattle.access.specs.Access as access
-use Rattle.tables.proofs.Tests.{cases, not-not, none-test}
+use Rattle.tables.proofs.Tests.{cases}
 use Rattle.monitor.specs.Monitor.{writeMon}
 use Rattle.monitor.specs.Occupancy.{lastEvent, filled, evicted}
 use Rattle.monitor.proofs.Occupancy.{CounterOk, filled-ok, evicted-ok}
 use Rattle.monitor.proofs.Monitor.{MonitorFacts, cleared-facts, cleared-lengths, write-facts, write-lengths, counted-facts, counted-lengths}
 use Rattle.capacity_model.specs.Rules.{Setup, setupOk, allocStatus}
-use Rattle.capacity_model.specs.Calls.{Call, reset, read, write, fill, evict}
-use Rattle.capacity_model.specs.Model.{State, Allocation, allocWord, lengthsOk, setupChecks, checks, refusal, afterReset, writeAlloc, writeMask, withAlloc, withMonitor, writeAt, noteBlock, fillAllowed, fillWith, perform, refuse, step}
+use Rattle.capacity_model.specs.Calls.{Call, reset, read, write, fill, evict, refused}
+use Rattle.capacity_model.specs.Model.{State, Allocation, allocWord, refusal, afterReset, writeAlloc, writeMask, withAlloc, withMonitor, writeAt, noteBlock, fillAllowed, fillWith, perform, step}
 use Rattle.capacity_model.specs.Ledger.{Ledger, accepted, noteAlloc, noteMask, noteWrite, started, noteCall, note}
 use Rattle.capacity_model.proofs.Setup.{ranges}
 use Rattle.capacity_model.proofs.Masks.{Held, mask-0, mask-mask, MaskFacts, masks-after, mask-after, reset-masks}
 use Rattle.capacity_model.proofs.Operations.{alloc-own, alloc-0, status-lt}
+use Rattle.capacity_model.proofs.Steps.{checking}
 
 pub record AllocFacts (su : Setup) (a : Allocation) : Type 0 where
   pub ctl : a .ctl ≡ allocWord su (a .ctl) (get reg.status (a .ctl))
@@ -54,10 +58,6 @@ reset-good su t = record {
   counters-long = cleared-lengths (su .nm) .0;
   events-long = cleared-lengths (su .nm) .1;
 }
-
-pub accepted-setup : (s : State) (su : Setup) → refusal s (reset su) ≡ 0 → T (setupOk su)
-unfolding refusal checks setupChecks
-accepted-setup s su e = not-not (setupOk su) (none-test (not (setupOk su)) 0 (cond (not (lengthsOk su s)) 2 0) e)
 
 -- ---- every other call
 
@@ -137,21 +137,19 @@ module _ {s : State} (g : Good s) where
       (λ t. kept (mask-good size offset v))
       (λ t. cases (λ x. Inv (cond x m s) l) (eqb offset 8) (λ t. kept (mon-good v)) (λ t. kept g)))
 
-  perform-inv : (c : Call) → refusal s c ≡ 0 → Inv (perform s c .state) (note (ledgerBy s) (record { call = c; answer = perform s c .answer }))
+  perform-inv : (c : Call) → refusal s c ≡ 0 → Inv (perform s c .state) (note (ledgerBy s) (c answers (perform s c .answer)))
   unfolding perform note accepted noteCall started afterReset fillWith noteBlock withMonitor
-  perform-inv (reset su) e = kept (reset-good su (accepted-setup s su e))
+  perform-inv (reset su) e = kept (reset-good su (passed-reset checking s su e))
   perform-inv (read size offset) e = kept g
   perform-inv (write size offset v) e = write-inv size offset v
   perform-inv (fill rcid mcid at block) e =
       cases (λ x. Inv (cond x (noteBlock s mcid at (filled (s .setup .w))) s) (ledgerBy s)) (fillAllowed s rcid at block) (λ t. kept (fill-good mcid at)) (λ t. kept g)
   perform-inv (evict rcid mcid at block) e = kept (evict-good mcid at)
 
-  good-step : (c : Call) → Inv (step s c .state) (note (ledgerBy s) (record { call = c; answer = step s c .answer }))
-  unfolding step refuse note accepted
-  good-step c =
-      cases (λ x. Inv (cond x (perform s c) (refuse s (refusal s c)) .state) (note (ledgerBy s) (record { call = c; answer = cond x (perform s c) (refuse s (refusal s c)) .answer })))
-      (eqb (refusal s c) 0) (λ t. perform-inv c (eqb→eq (refusal s c) 0 t)) (λ t. kept g)
+  good-step : (c : Call) → Inv (step s c .state) (note (ledgerBy s) (event step s c))
+  unfolding note accepted
+  good-step c = step-by refusal perform refused s c (λ o. Inv (o .state) (note (ledgerBy s) (c answers (o .answer)))) (perform-inv c) (λ t. kept g)
 
-pub inv-step : (s : State) (l : Ledger) → Inv s l → (c : Call) → Inv (step s c .state) (note l (record { call = c; answer = step s c .answer }))
+pub inv-step : (s : State) (l : Ledger) → Inv s l → (c : Call) → Inv (step s c .state) (note l (event step s c))
 inv-step s l v c =
-    subst⁻¹ (λ (k : Ledger). Inv (step s c .state) (note k (record { call = c; answer = step s c .answer }))) (v .same) (good-step (v .good) c)
+    subst⁻¹ (λ (k : Ledger). Inv (step s c .state) (note k (event step s c))) (v .same) (good-step (v .good) c)

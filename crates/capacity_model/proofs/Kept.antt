@@ -1,109 +1,64 @@
--- A mask stays until its pair is set again or a reset comes.
-use mathlib.Core.Path.{_≡_, refl, sym, subst, _∙_}
-use mathlib.Core.Bool.{Bool, true, false, not, cond, _&&_, _||_}
-use mathlib.Core.List.{List, [], _∷_}
-use Prim.Native.Nat.{ℕ, _<_}
+-- A mask that stands in the table stays there until its pair is set again or a reset comes.
+use mathlib.Core.Path.{_≡_, subst}
+use mathlib.Core.Bool.{not, cond, _&&_}
+use Prim.Native.Nat.{ℕ}
 use lib.Dec.{T, eqb}
-use lib.ListN.{set}
-use Rattle.runs.specs.Runs.{after, events}
 use Rattle.access.specs.Access as access
-use Rattle.access.specs.Pairs.{pair, wordAt}
-use Rattle.access.proofs.Pairs.{pair-at, pair-rcid, word-set-other}
-use Rattle.tables.proofs.Tests.{cases, and-l, and-r, and-in, nand-r, nor-l, nor-r, not-both, eqb-in, cond-yes}
+use Rattle.access.specs.Pairs.{Setting, setsPair}
+use Rattle.access.proofs.Pairs.{Stored, stored-other, sets-one}
+use Rattle.tables.proofs.Tests.{cases}
 use Rattle.monitor.specs.Monitor.{writeMon}
 use Rattle.monitor.specs.Occupancy.{lastEvent, filled}
 use Rattle.capacity_model.specs.Rules.{Setup, configLimit, rcidOf, atOf, allocDone, masksAfter}
 use Rattle.capacity_model.specs.Calls.{Call, reset, read, write, fill, evict}
-use Rattle.capacity_model.specs.Model.{State, writeAlloc, writeMask, withAlloc, withMonitor, writeAt, noteBlock, fillAllowed, fillWith, perform, refusal, refuse, step}
-use Rattle.capacity_model.specs.Ledger.{Event, Ledger, accepted, note}
-use Rattle.capacity_model.specs.Claim.{Setting, settingsBy, settings, setsPair, isReset, touches, untouched}
+use Rattle.capacity_model.specs.Model.{State, writeAlloc, writeMask, withAlloc, withMonitor, writeAt, noteBlock, fillAllowed, fillWith, perform}
+use Rattle.capacity_model.specs.Ledger.{Ledger}
+use Rattle.capacity_model.specs.Claim.{settingsBy, isReset}
 use Rattle.capacity_model.proofs.Operations.{done-pair}
-use Rattle.capacity_model.proofs.Invariant.{ledgerBy, Inv, inv-step}
-use Rattle.capacity_model.proofs.Steps.{perform-accepted}
+use Rattle.capacity_model.proofs.Invariant.{ledgerBy, Inv}
 
--- the pair's mask and the set-up are the same in both states
-pub record Same (s s′ : State) (rcid at : ℕ) : Type 0 where
-  pub word : wordAt (s .setup .na) (s′ .alloc .masks) rcid at ≡ wordAt (s .setup .na) (s .alloc .masks) rcid at
-  pub setup : s′ .setup ≡ s .setup
+-- the setting p, made with the ledger l, stands in the state s
+pub record Back (l : Ledger) (p : Setting) (s : State) : Type 0 where
+  pub setup : s .setup ≡ l .setup
+  pub stands : Stored (s .setup .nr) (s .setup .na) (s .alloc .masks) p
 
-same-table : (su : Setup) (masks : List ℕ) (mask v rcid at : ℕ) → at < su .na → T (not (allocDone su mask configLimit v && eqb (rcidOf v) rcid && eqb (atOf su v) at))
-    → wordAt (su .na) (masksAfter su masks mask v) rcid at ≡ wordAt (su .na) masks rcid at
-unfolding masksAfter
-same-table su masks mask v rcid at h n =
-    let done = allocDone su mask configLimit v in
-    let place = pair (su .na) (rcidOf v) (atOf su v) in
-    let r = eqb (rcidOf v) rcid in
-    let a = eqb (atOf su v) at in
-    (cases (λ x. T (not (x && r && a)) → wordAt (su .na) (cond x (set masks place mask) masks) rcid at ≡ wordAt (su .na) masks rcid at) done
-    (λ t n. let hv = done-pair su mask configLimit v t .at-low in
-    word-set-other (su .na) masks place mask rcid at
-    (λ q. not-both (r && a)
-    (and-in r a (eqb-in (rcidOf v) rcid (sym (pair-rcid (su .na) rcid at (rcidOf v) (atOf su v) h hv q))) (eqb-in (atOf su v) at (sym (pair-at (su .na) rcid at (rcidOf v) (atOf su v) h hv q)))) n))
-    (λ t n. refl)) n
+-- the setting that a value written to alloc_ctl names
+abbrev pub settingOf : Setup → ℕ → ℕ → Setting
+settingOf su mask v = record { rcid = rcidOf v; at = atOf su v; word = mask }
 
-same-write : (s : State) (size offset v rcid at : ℕ) → at < s .setup .na
-    → T (not (eqb offset 24 && allocDone (s .setup) (s .alloc .mask) configLimit v && eqb (rcidOf v) rcid && eqb (atOf (s .setup) v) at))
-    → Same s (writeAt s size offset v) rcid at
-unfolding writeAt withAlloc writeAlloc writeMask withMonitor
-same-write s size offset v rcid at h =
-    let done = allocDone (s .setup) (s .alloc .mask) configLimit v in
-    let operand = eqb (access.registerAt offset) access.operand in
-    let a = withAlloc s (writeAlloc (s .setup) (s .alloc .mask) (s .alloc .masks) v) in
-    let b = withAlloc s (writeMask (s .setup) (s .alloc) size offset v) in
-    let m = withMonitor s (writeMon (s .setup .na) (s .setup .nm) lastEvent (s .monitor) v) in
-    cases (λ x. T (not (x && done && eqb (rcidOf v) rcid && eqb (atOf (s .setup) v) at)) → Same s (cond x a (cond operand b (cond (eqb offset 8) m s))) rcid at) (eqb offset 24)
-    (λ t n. record { word = same-table (s .setup) (s .alloc .masks) (s .alloc .mask) v rcid at h n; setup = refl })
-    (λ t n. cases (λ x. Same s (cond x b (cond (eqb offset 8) m s)) rcid at) operand
-    (λ t. record { word = refl; setup = refl })
-    (λ t. cases (λ x. Same s (cond x m s) rcid at) (eqb offset 8) (λ t. record { word = refl; setup = refl }) (λ t. record { word = refl; setup = refl })))
+module _ (l : Ledger) (p : Setting) (s : State) (b : Back l p s) where
+  kept-write : (size offset v : ℕ)
+      → T (not (eqb offset 24 && allocDone (s .setup) (s .alloc .mask) configLimit v && eqb (rcidOf v) (p .rcid) && eqb (atOf (s .setup) v) (p .at)))
+      → Back l p (writeAt s size offset v)
+  unfolding writeAt withAlloc writeAlloc writeMask withMonitor masksAfter
+  kept-write size offset v =
+      let su = s .setup in
+      let masks = s .alloc .masks in
+      let mask = s .alloc .mask in
+      let done = allocDone su mask configLimit v in
+      let operand = eqb (access.registerAt offset) access.operand in
+      let x = withAlloc s (writeAlloc su mask masks v) in
+      let y = withAlloc s (writeMask su (s .alloc) size offset v) in
+      let m = withMonitor s (writeMon (su .na) (su .nm) lastEvent (s .monitor) v) in
+      cases (λ t. T (not (t && done && eqb (rcidOf v) (p .rcid) && eqb (atOf su v) (p .at))) → Back l p (cond t x (cond operand y (cond (eqb offset 8) m s)))) (eqb offset 24)
+      (λ t n. record { setup = b .setup; stands = stored-other (su .nr) (su .na) masks (settingOf su mask v) p done (λ d. done-pair su mask configLimit v d .at-low) n (b .stands) })
+      (λ t n. cases (λ t. Back l p (cond t y (cond (eqb offset 8) m s))) operand
+      (λ t. record { setup = b .setup; stands = b .stands })
+      (λ t. cases (λ t. Back l p (cond t m s)) (eqb offset 8) (λ t. record { setup = b .setup; stands = b .stands }) (λ t. b)))
 
--- the one setting that a write may make
-sets-one : (x : Bool) (rcid at : ℕ) (p : Setting) → T (not (setsPair rcid at (cond x (p ∷ []) []))) → T (not (x && eqb (p .rcid) rcid && eqb (p .at) at))
-unfolding setsPair
-sets-one true rcid at p n = nor-l (eqb (p .rcid) rcid && eqb (p .at) at) false n
-sets-one false rcid at p n = tt
-
-module _ (s : State) (rcid at : ℕ) (h : at < s .setup .na) where
-  same-perform : (c : Call) → T (not (isReset c)) → T (not (setsPair rcid at (settingsBy (ledgerBy s) c))) → Same s (perform s c .state) rcid at
+  kept-perform : (c : Call) → T (not (isReset c)) → T (not (setsPair (p .rcid) (p .at) (settingsBy (ledgerBy s) c))) → Back l p (perform s c .state)
   unfolding perform isReset settingsBy fillWith noteBlock withMonitor
-  same-perform (reset su) i n = absurd i
-  same-perform (read size offset) i n = record { word = refl; setup = refl }
-  same-perform (write size offset v) i n =
-      same-write s size offset v rcid at h
-      (sets-one (eqb offset 24 && allocDone (s .setup) (s .alloc .mask) configLimit v) rcid at (record { rcid = rcidOf v; at = atOf (s .setup) v; mask = s .alloc .mask }) n)
-  same-perform (fill r m a b) i n =
-      cases (λ x. Same s (cond x (noteBlock s m a (filled (s .setup .w))) s) rcid at) (fillAllowed s r a b)
-      (λ t. record { word = refl; setup = refl }) (λ t. record { word = refl; setup = refl })
-  same-perform (evict r m a b) i n = record { word = refl; setup = refl }
+  kept-perform (reset su) i n = absurd i
+  kept-perform (read size offset) i n = b
+  kept-perform (write size offset v) i n =
+      kept-write size offset v
+      (sets-one (eqb offset 24 && allocDone (s .setup) (s .alloc .mask) configLimit v) (settingOf (s .setup) (s .alloc .mask) v) (p .rcid) (p .at) n)
+  kept-perform (fill r m a d) i n =
+      cases (λ x. Back l p (cond x (noteBlock s m a (filled (s .setup .w))) s)) (fillAllowed s r a d)
+      (λ t. record { setup = b .setup; stands = b .stands }) (λ t. b)
+  kept-perform (evict r m a d) i n = record { setup = b .setup; stands = b .stands }
 
-  same-step : (c : Call) → T (not (touches (ledgerBy s) rcid at (record { call = c; answer = step s c .answer }))) → Same s (step s c .state) rcid at
-  unfolding step refuse touches settings accepted
-  same-step c =
-      let l = ledgerBy s in
-      cases (λ x. T (not ((accepted (cond x (perform s c) (refuse s (refusal s c)) .answer) && isReset c)
-      || setsPair rcid at (cond (accepted (cond x (perform s c) (refuse s (refusal s c)) .answer)) (settingsBy l c) [])))
-      → Same s (cond x (perform s c) (refuse s (refusal s c)) .state) rcid at)
-      (eqb (refusal s c) 0)
-      (λ t n. let y = accepted (perform s c .answer) in
-      let z = setsPair rcid at (cond y (settingsBy l c) []) in
-      same-perform c (nand-r y (isReset c) (nor-l (y && isReset c) z n) (perform-accepted s c))
-      (subst (λ (k : List Setting). T (not (setsPair rcid at k))) (cond-yes y (settingsBy l c) [] (perform-accepted s c)) (nor-r (y && isReset c) z n)))
-      (λ t n. record { word = refl; setup = refl })
-
-same-inv : (s : State) (l : Ledger) → Inv s l → (c : Call) (rcid at : ℕ) → at < s .setup .na
-    → T (not (touches l rcid at (record { call = c; answer = step s c .answer }))) → Same s (step s c .state) rcid at
-same-inv s l i c rcid at h n =
-    same-step s rcid at h c (subst (λ (k : Ledger). T (not (touches k rcid at (record { call = c; answer = step s c .answer })))) (i .same) n)
-
-pub same-all : (cs : List Call) (s : State) (l : Ledger) → Inv s l → (rcid at : ℕ) → at < s .setup .na → T (untouched l rcid at (events step s cs)) → Same s (after step s cs) rcid at
-unfolding untouched events after
-same-all [] s l i rcid at h t = record { word = refl; setup = refl }
-same-all (c ∷ cs) s l i rcid at h t =
-    let e : Event = record { call = c; answer = step s c .answer } in
-    let rest = untouched (note l e) rcid at (events step (step s c .state) cs) in
-    let k = same-inv s l i c rcid at h (and-l (not (touches l rcid at e)) rest t) in
-    let m = same-all cs (step s c .state) (note l e) (inv-step s l i c) rcid at (rw (k .setup) h) (and-r (not (touches l rcid at e)) rest t) in
-    record {
-      word = subst (λ (u : Setup). wordAt (u .na) (after step (step s c .state) cs .alloc .masks) rcid at ≡ wordAt (u .na) (step s c .state .alloc .masks) rcid at) (k .setup) (m .word) ∙ k .word;
-      setup = m .setup ∙ k .setup;
-    }
+pub kept-by : (s : State) (n : Ledger) → Inv s n → (l : Ledger) (p : Setting) → Back l p s → (c : Call) → T (not (isReset c))
+    → T (not (setsPair (p .rcid) (p .at) (settingsBy n c))) → Back l p (perform s c .state)
+kept-by s n i l p b c r t =
+    kept-perform l p s b c r (subst (λ (k : Ledger). T (not (setsPair (p .rcid) (p .at) (settingsBy k c)))) (i .same) t)

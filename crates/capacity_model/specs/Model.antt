@@ -1,5 +1,5 @@
 -- The capacity controller: its state, and what each call answers and leaves.
-use mathlib.Core.Bool.{Bool, not, cond, _&&_, _||_}
+use mathlib.Core.Bool.{Bool, cond, _&&_, _||_}
 use mathlib.Core.List.{List, [], _∷_, _++_}
 use Prim.Native.Nat.{ℕ}
 use lib.Dec.{leb, eqb}
@@ -9,6 +9,7 @@ use Rattle.fields.specs.Registers as reg
 use Rattle.tables.specs.Below.{allBelow}
 use Rattle.runs.specs.Runs as runs
 use Rattle.access.specs.Checks.{Check, _gives_, first}
+use Rattle.access.specs.Checks as shared
 use Rattle.access.specs.Access as access
 use Rattle.access.specs.Pairs.{wordAt, knownAt}
 use Rattle.monitor.specs.Monitor.{Monitor, cleared, writeMon, counted, monitorOk}
@@ -70,11 +71,12 @@ argumentChecks su (fill rcid mcid at block) = blockChecks su rcid mcid block
 argumentChecks su (evict rcid mcid at block) = blockChecks su rcid mcid block
 
 -- checks 1 and 2, of a set-up and the lengths of the lent tables
-unfoldable pub setupChecks : Setup → State → List Check
-setupChecks su s = (not (setupOk su) gives 1) ∷ (not (lengthsOk su s) gives 2) ∷ []
+abbrev pub setupChecks : Setup → State → List Check
+setupChecks su s = shared.setupChecks (setupOk su) (lengthsOk su s)
 
-unfoldable pub stateChecks : State → List Check
-stateChecks s = setupChecks (s .setup) s ++ (not (wellFormed s) gives 3) ∷ []
+-- checks 1 to 3
+abbrev pub stateChecks : State → List Check
+stateChecks s = shared.stateChecks (setupOk (s .setup)) (lengthsOk (s .setup) s) (wellFormed s)
 
 unfoldable pub checks : State → Call → List Check
 checks s (reset su) = setupChecks su s
@@ -161,9 +163,6 @@ perform s (write size offset v) = record { answer = done; state = writeAt s size
 perform s (fill rcid mcid at block) = fillWith s mcid at (fillAllowed s rcid at block)
 perform s (evict rcid mcid at block) = record { answer = done; state = noteBlock s mcid at evicted }
 
--- a refusal returns its number and changes nothing
-unfoldable pub refuse : State → ℕ → Outcome
-refuse s n = record { answer = refused n; state = s }
-
-unfoldable pub step : State → Call → Outcome
-step s c = cond (eqb (refusal s c) 0) (perform s c) (refuse s (refusal s c))
+-- a refusal returns its number and changes nothing; any other call is performed
+abbrev pub step : State → Call → Outcome
+step s c = runs.step refusal perform refused s c

@@ -1,0 +1,69 @@
+-- A setting stays until its pair is set again or a reset comes.
+use mathlib.Core.Path.{subst}
+use mathlib.Core.Bool.{Bool, true, false, not, cond, _&&_, _||_}
+use mathlib.Core.List.{List, [], _∷_, _++_, List·Memᴰ, List·Memᴰ·not-nil}
+use Prim.Native.Nat.{ℕ}
+use lib.Dec.{T}
+use Rattle.access.specs.Pairs.{Setting, setsPair}
+use Rattle.tables.proofs.Tests.{nand-r, nor-l, nor-r, cond-yes}
+use Rattle.runs.specs.Runs.{Outcome, Event, step, event, events, untouched, stateAfter, eventAfter, noteAfter}
+use Rattle.runs.specs.Settings.{settings, touches}
+use Rattle.runs.proofs.Laws.{state-one, state-more, kept-after, kept-untouched}
+use Rattle.runs.proofs.Steps.{step-by, Accepting}
+
+-- an event with settings was accepted
+settings-made : {N C A : Type 0} (accepted : A → Bool) (settingsBy : N → C → List Setting) (n : N) (e : Event C A) (p : Setting)
+    → List·Memᴰ p (settings accepted settingsBy n e) → T (accepted (e .answer)) × List·Memᴰ p (settingsBy n (e .call))
+unfolding settings
+settings-made accepted settingsBy n e p = by (accepted (e .answer))
+  where
+    by : (x : Bool) → List·Memᴰ p (cond x (settingsBy n (e .call)) []) → T x × List·Memᴰ p (settingsBy n (e .call))
+    by true m = (tt, m)
+    by false m = absurd (List·Memᴰ·not-nil m)
+
+-- a call that does not touch the pair is refused, or it is performed and is no reset and does not set the pair
+module _ {S C A N : Type 0} {refusal : S → C → ℕ} {perform : S → C → Outcome S A} {refused : ℕ → A} {accepted : A → Bool}
+    (a : Accepting refusal perform refused accepted) (isReset : C → Bool) (settingsBy : N → C → List Setting) where
+  pub untouched-step : (rcid at : ℕ) (P : S → Type 0) (s : S) (n : N) (c : C) → P s
+      → (T (not (isReset c)) → T (not (setsPair rcid at (settingsBy n c))) → P (perform s c .state))
+      → T (not (touches accepted isReset settingsBy rcid at n (event (step refusal perform refused) s c))) → P (step refusal perform refused s c .state)
+  unfolding touches settings
+  untouched-step rcid at P s n c p f =
+      step-by refusal perform refused s c
+      (λ o. T (not ((accepted (o .answer) && isReset c) || setsPair rcid at (cond (accepted (o .answer)) (settingsBy n c) []))) → P (o .state))
+      (λ e t. let y = accepted (perform s c .answer) in
+      let z = setsPair rcid at (cond y (settingsBy n c) []) in
+      f (nand-r y (isReset c) (nor-l (y && isReset c) z t) (a .performs s c))
+      (subst (λ (k : List Setting). T (not (setsPair rcid at k))) (cond-yes y (settingsBy n c) [] (a .performs s c)) (nor-r (y && isReset c) z t)))
+      (λ e t. p)
+
+-- Back n p s: the setting p, made with the notes n, stands in the state s
+pub record Standing {S C A N : Type 0} (step : S → C → Outcome S A) (accepted : A → Bool) (isReset : C → Bool) (settingsBy : N → C → List Setting)
+    (note : N → Event C A → N) (Inv : S → N → Type 0) (Back : N → Setting → S → Type 0) : Type 0 where
+  pub inv : (s : S) (n : N) → Inv s n → (c : C) → Inv (step s c .state) (note n (event step s c))
+  -- it does once it is made
+  pub made : (s : S) (n : N) → Inv s n → (c : C) (p : Setting) → T (accepted (step s c .answer)) → List·Memᴰ p (settingsBy n c) → Back n p (step s c .state)
+  -- and after a call that does not touch its pair
+  pub kept : (s : S) (n : N) → Inv s n → (m : N) (p : Setting) → Back m p s → (c : C)
+      → T (not (touches accepted isReset settingsBy (p .rcid) (p .at) n (event step s c))) → Back m p (step s c .state)
+
+module _ {S C A N U : Type 0} {step : S → C → Outcome S A} {accepted : A → Bool} {isReset : C → Bool} {settingsBy : N → C → List Setting}
+    {note : N → Event C A → N} {Inv : S → N → Type 0} {Back : N → Setting → S → Type 0} (k : Standing step accepted isReset settingsBy note Inv Back)
+    (reset : U → C) (started : U → N) (s : S) (u : U) (i : Inv (step s (reset u) .state) (started u)) where
+  -- what the call c made after the list before stands after the calls between that do not touch it
+  pub stands : (before between : List C) (c : C) (p : Setting)
+      → List·Memᴰ p (settings accepted settingsBy (noteAfter step reset note started s u before) (eventAfter step reset s u before c))
+      → T (untouched note (touches accepted isReset settingsBy (p .rcid) (p .at)) (noteAfter step reset note started s u (before ++ c ∷ []))
+      (events step (stateAfter step reset s u (before ++ c ∷ [])) between))
+      → Back (noteAfter step reset note started s u before) p (stateAfter step reset s u (before ++ c ∷ between))
+  stands before between c p m t =
+      let x = stateAfter step reset s u before in
+      let n = noteAfter step reset note started s u before in
+      let one = state-one step reset s u before c in
+      let inv = kept-after step reset s u note started Inv (k .inv) i in
+      let f = settings-made accepted settingsBy n (event step x c) p m in
+      rw (state-more step reset s u before between c)
+      (kept-untouched step note (touches accepted isReset settingsBy (p .rcid) (p .at)) (λ y l. Inv y l × Back n p y)
+      (λ y l q d h. (k .inv y l (q .0) d, k .kept y l (q .0) n p (q .1) d h))
+      between (step x c .state) (noteAfter step reset note started s u (before ++ c ∷ []))
+      (rw one at (inv (before ++ c ∷ [])), k .made x n (inv before) c p (f .0) (f .1)) (rw one at t) .1)
