@@ -1,7 +1,7 @@
 -- The place of a pair: inside the table, one for each pair, and the word there after a store.
 use mathlib.Core.Path.{_≡_, refl, sym, ap, _∙_}
 use mathlib.Core.Bool.{Bool, true, false, not, cond, _&&_}
-use mathlib.Core.List.{List, [], _∷_, List·Memᴰ, List·Memᴰ·not-nil, List·Memᴰ·eq-of-singleton}
+use mathlib.Core.List.{List, [], _∷_}
 use Prim.Native.Nat.{ℕ, zero, suc, _+_, _-_, _*_, _/_, _%_, _≤_, _<_}
 use native.Mathlib.Nat.{mul-le-mul-right, mul-add-mod-self-right, mod-eq-of-lt, mul-add-div-right, div-eq-of-lt, div-lt-iff-lt-mul, div-add-mod', mod-lt, mul-zero, zero-lt-suc}
 use native.Mathlib.Omega.{arith}
@@ -89,50 +89,29 @@ pub record Stored (nr na : ℕ) (table : List ℕ) (p : Setting) : Type 0 where
   pub rcid-low : p .rcid < nr
   pub at-low : p .at < na
 
--- a setting q is stored, or nothing is
+-- a setting q is stored
 module _ (nr na : ℕ) (table : List ℕ) (q : Setting) where
-  abbrev pub store : Bool → List ℕ
-  store b = cond b (set table (pair na (q .rcid) (q .at)) (q .word)) table
-
   -- it stands then
-  pub stored-now : (b : Bool) → T b → length table ≡ nr * na → q .rcid < nr → q .at < na → Stored nr na (store b) q
-  stored-now true t e hr ha = record {
+  pub stored-now : length table ≡ nr * na → q .rcid < nr → q .at < na → Stored nr na (set table (pair na (q .rcid) (q .at)) (q .word)) q
+  stored-now e hr ha = record {
     word = word-set-same na table (q .rcid) (q .at) (q .word) (rw e (pair-inside nr na (q .rcid) (q .at) hr ha));
     rcid-low = hr;
     at-low = ha;
   }
-  stored-now false t e hr ha = absurd t
 
   -- and another pair's setting stays
-  pub stored-other : (p : Setting) (b : Bool) → (T b → q .at < na) → T (not (b && eqb (q .rcid) (p .rcid) && eqb (q .at) (p .at)))
-      → Stored nr na table p → Stored nr na (store b) p
-  stored-other p true h n k =
+  pub stored-other : (p : Setting) → q .at < na → T (not (setsPair (p .rcid) (p .at) (q ∷ [])))
+      → Stored nr na table p → Stored nr na (set table (pair na (q .rcid) (q .at)) (q .word)) p
+  unfolding setsPair
+  stored-other p h n k =
       let r = eqb (q .rcid) (p .rcid) in
       let a = eqb (q .at) (p .at) in
       let differs : pair na (p .rcid) (p .at) ≡ pair na (q .rcid) (q .at) → ⊥ =
       λ e. not-both (r && a)
-      (and-in r a (eqb-in (q .rcid) (p .rcid) (sym (pair-rcid na (p .rcid) (p .at) (q .rcid) (q .at) (k .at-low) (h tt) e)))
-      (eqb-in (q .at) (p .at) (sym (pair-at na (p .rcid) (p .at) (q .rcid) (q .at) (k .at-low) (h tt) e)))) n in
+      (and-in r a (eqb-in (q .rcid) (p .rcid) (sym (pair-rcid na (p .rcid) (p .at) (q .rcid) (q .at) (k .at-low) h e)))
+      (eqb-in (q .at) (p .at) (sym (pair-at na (p .rcid) (p .at) (q .rcid) (q .at) (k .at-low) h e)))) (nor-l (r && a) false n) in
       record {
         word = word-set-other na table (pair na (q .rcid) (q .at)) (q .word) (p .rcid) (p .at) differs ∙ k .word;
         rcid-low = k .rcid-low;
         at-low = k .at-low;
       }
-  stored-other p false h n k = k
-
--- the one setting that a call may make
-module _ (x : Bool) (q : Setting) where
-  pub sets-one : (rcid at : ℕ) → T (not (setsPair rcid at (cond x (q ∷ []) []))) → T (not (x && eqb (q .rcid) rcid && eqb (q .at) at))
-  unfolding setsPair
-  sets-one rcid at = by x
-    where
-      by : (b : Bool) → T (not (setsPair rcid at (cond b (q ∷ []) []))) → T (not (b && eqb (q .rcid) rcid && eqb (q .at) at))
-      by true n = nor-l (eqb (q .rcid) rcid && eqb (q .at) at) false n
-      by false n = tt
-
-  pub is-one : (p : Setting) → List·Memᴰ p (cond x (q ∷ []) []) → T x × (p ≡ q)
-  is-one p = by x
-    where
-      by : (b : Bool) → List·Memᴰ p (cond b (q ∷ []) []) → T b × (p ≡ q)
-      by true m = (tt, List·Memᴰ·eq-of-singleton m)
-      by false m = absurd (List·Memᴰ·not-nil m)

@@ -45,33 +45,33 @@ module _ (s : State) (c : Call) (n : T (not (isReset c))) where
 
 module _ {s : State} {t : Totals} (p : Passes s t) where
   pub read-refused : (size offset : ℕ) (why : Refusal) → numberOf why ≡ first (readChecks size offset) 0 → outcome (refused (numberOf why)) s ≡ step s (read size offset)
-  unfolding isReset argumentChecks
+  unfolding argumentChecks
   read-refused size offset why e = call-refused s (read size offset) tt p why (sym e)
 
   pub read-done : (size offset v : ℕ) → 0 ≡ first (readChecks size offset) 0 → v ≡ readAt s size offset → outcome (value v) s ≡ step s (read size offset)
-  unfolding isReset argumentChecks perform
+  unfolding argumentChecks perform
   read-done size offset v e q = call-done s (read size offset) tt p (sym e) _ (rw q refl)
 
   pub write-refused : (size offset v : ℕ) (why : Refusal) → numberOf why ≡ first (writeChecks size offset v) 0 → outcome (refused (numberOf why)) s ≡ step s (write size offset v)
-  unfolding isReset argumentChecks
+  unfolding argumentChecks
   write-refused size offset v why e = call-refused s (write size offset v) tt p why (sym e)
 
   pub write-done : (size offset v : ℕ) (x : State) → 0 ≡ first (writeChecks size offset v) 0 → x ≡ writeAt s offset v → outcome done x ≡ step s (write size offset v)
-  unfolding isReset argumentChecks perform
+  unfolding argumentChecks perform
   write-done size offset v x e q = call-done s (write size offset v) tt p (sym e) _ (rw q refl)
 
   module _ (rcid mcid at kind bytes : ℕ) where
     pub request-unknown : (leb (s .setup .nr) rcid || leb (s .setup .nm) mcid) ≡ true → outcome (refused 7) s ≡ step s (request rcid mcid at kind bytes)
-    unfolding isReset argumentChecks
+    unfolding argumentChecks
     request-unknown e = call-refused s (request rcid mcid at kind bytes) tt p Identifier (rw e refl)
 
     pub request-done : (leb (s .setup .nr) rcid || leb (s .setup .nm) mcid) ≡ false → (o : Outcome) → o ≡ requested s rcid mcid at kind bytes → o ≡ step s (request rcid mcid at kind bytes)
-    unfolding isReset argumentChecks perform
+    unfolding argumentChecks perform
     request-done e o q = call-done s (request rcid mcid at kind bytes) tt p (rw e refl) o q
 
   pub end-done : (active used : List ℕ) → active ≡ s .alloc .configured → used ≡ replicate (pairs (s .setup)) 0
       → outcome done (record { setup = s .setup; alloc = s .alloc; usage = record { active = active; used = used; pool = 0 }; monitor = s .monitor }) ≡ step s endWindow
-  unfolding isReset argumentChecks perform afterWindow opened
+  unfolding argumentChecks perform afterWindow opened
   end-done active used e f = call-done s endWindow tt p refl _ (rw (e, f) refl)
 
 -- an RCID that passes check 7

@@ -6,12 +6,12 @@ use Prim.Native.Nat.{ℕ, _%_, _<_, _^_}
 use native.Mathlib.Omega.{arith}
 use lib.Dec.{eqb}
 use Rattle.runs.proofs.Laws.{state-one}
-use Rattle.runs.proofs.Settings.{stands}
+use Rattle.runs.proofs.Settings.{Back, stands, standing}
 use Rattle.access.specs.Access as access
 use Rattle.access.specs.Pairs.{Setting}
 use mathlib.Core.Bool.{cond}
 use Rattle.tables.proofs.Tests.{cases}
-use Rattle.bandwidth_model.specs.Rules.{Setup}
+use Rattle.bandwidth_model.specs.Rules.{Setup, atOf}
 use Rattle.bandwidth_model.specs.Calls.{Call, reset, read, write, done, value}
 use Rattle.bandwidth_model.specs.Model.{State, register, readAt, step}
 use Rattle.bandwidth_model.specs.Ledger.{Window, Ledger, started}
@@ -19,10 +19,10 @@ use Rattle.bandwidth_model.specs.Runs.{stateAfter, ledgerAfter}
 use Rattle.bandwidth_model.specs.Claim.{Fair, Stands, Claim, Demand3}
 use Rattle.bandwidth_model.proofs.Words.{bw-lt}
 use Rattle.bandwidth_model.proofs.Invariant.{Inv, fair-now}
-use Rattle.bandwidth_model.proofs.Steps.{value-is}
+use Rattle.bandwidth_model.proofs.Steps.{accepting, value-is}
 use Rattle.bandwidth_model.proofs.Lists.{inv-first, inv-after}
-use Rattle.bandwidth_model.proofs.Kept.{Back}
-use Rattle.bandwidth_model.proofs.ReadBack.{standing, read-back}
+use Rattle.bandwidth_model.proofs.Kept.{setting}
+use Rattle.bandwidth_model.proofs.ReadBack.{read-back}
 
 module _ (s : State) (l : Ledger) (i : Inv s l) where
   window-fair : (w : Window) → List·Memᴰ w (l .now ∷ l .closed) → Fair w
@@ -46,9 +46,9 @@ unfolding access.part
 low-part size w h = cases (λ x. cond x w (w % 2 ^ 32) ≡ w) (eqb size 8) (λ t. refl) (λ t. omega arith)
 
 module _ (s : State) (su : Setup) (e : step s (reset su) .answer ≡ done) where
-  stands-back : (before between : List Call) (c : Call) (p : Setting) → Stands s su before between c p
-      → Back (ledgerAfter s su before) p (stateAfter s su (before ++ c ∷ between))
-  stands-back before between c p k = stands standing reset started s su (inv-first s su e) before between c p (k .made) (k .kept)
+  back : (before between : List Call) (c : Call) (p : Setting) → Stands s su before between c p
+      → Back (λ s. s .setup) (λ u. u .nr) (λ u. u .na) (λ s. s .alloc .configured) (ledgerAfter s su before .setup) p (stateAfter s su (before ++ c ∷ between))
+  back before between c p k = stands (standing accepting setting) reset started s su (inv-first s su e) before between c p (k .made) (k .kept)
 
   claim : (cs : List Call) → Claim s su cs
   claim cs = record {
@@ -60,18 +60,19 @@ module _ (s : State) (su : Setup) (e : step s (reset su) .answer ≡ done) where
         let i = inv-after s su e before in
         rw (ap (λ (k : Ledger). k .setup) (i .same)) (i .good .configured .bounded);
     kept = λ before between after c p q k.
-        let b = stands-back before between c p k in
-        rw (ap (λ (x : Setup). x .na) (b .setup)) at (b .stands .word);
+        let b = back before between c p k in
+        rw (ap (λ (x : Setup). x .na) (b .same)) at (b .stands .word);
     readBack = λ before between after c p size v size′ x q k o er ea a r.
         let l = before ++ c ∷ between in
         let w = write size 24 v in
+        let b = back before between c p k in
         let i = inv-after s su e (l ++ w ∷ []) in
         let t = stateAfter s su (l ++ w ∷ []) in
         bw-read t (ledgerAfter s su (l ++ w ∷ [])) i size′ 32 x refl r
         ∙ ap (access.part size′ 32) (sym (bw-same t (ledgerAfter s su (l ++ w ∷ [])) i))
         ∙ low-part size′ (t .alloc .bw) (rw (i .good .bw) (bw-lt (t .alloc .bw)))
         ∙ ap (λ (y : State). y .alloc .bw) (state-one step reset s su l w)
-        ∙ read-back (ledgerAfter s su before) p (stateAfter s su l) (stands-back before between c p k) size v o er ea a;
+        ∙ read-back (stateAfter s su l) p (b .stands) size v o er (ap (λ (x : Setup). atOf x v) (b .same) ∙ ea) a;
   }
 
 pub demand3 : Demand3

@@ -19,7 +19,7 @@ use Rattle.bandwidth_model.specs.Rules.{Setup, setupOk, pairs, weightOf,
 use Rattle.bandwidth_model.specs.Calls.{Call, reset, read, write, request, endWindow, refused}
 use Rattle.bandwidth_model.specs.Model.{State, Usage, allocWord, opened, afterReset, afterWindow, writeAlloc, writeBw, withAlloc, withMonitor, writeAt, fromReservation, fromPool, grantOf, grantSum, spend, serve, serveFrom, requested, perform, argumentChecks, refusal, step}
 use Rattle.bandwidth_model.specs.Ledger.{Window, Ledger, openWindow, accepted, bytesOf, noteGrant, noteRequest, noteAlloc, noteBw, noteWrite, noteEnd, startedAfter, noteCall, note}
-use Rattle.bandwidth_model.specs.Claim.{Fair, isReset}
+use Rattle.bandwidth_model.specs.Claim.{Fair}
 use Rattle.bandwidth_model.proofs.Words.{bw-0, bw-bw}
 use Rattle.bandwidth_model.proofs.Setup.{ranges}
 use Rattle.bandwidth_model.proofs.Settings.{TableFacts}
@@ -111,7 +111,7 @@ unfolding fromPool
 no-pool su u i rest e = rw e refl
 
 known-rcid : (s : State) (rcid mcid at kind bytes : ℕ) → refusal s (request rcid mcid at kind bytes) ≡ 0 → rcid < s .setup .nr
-unfolding argumentChecks isReset
+unfolding argumentChecks
 known-rcid s rcid mcid at kind bytes e =
     let c = request rcid mcid at kind bytes in
     let f = none-holds 0 (argumentChecks (s .setup) c) 0 tt (passed-arguments checking s c tt e) .0 in

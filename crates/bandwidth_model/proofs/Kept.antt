@@ -1,61 +1,60 @@
--- A setting that stands in the configured table stays there until its pair is set again or a reset comes.
-use mathlib.Core.Path.{_≡_, subst}
-use mathlib.Core.Bool.{not, cond, _&&_}
-use mathlib.Core.List.{List}
+-- What each call does to the configured table.
+use mathlib.Core.Path.{refl, sym, ap, subst⁻¹}
+use mathlib.Core.Bool.{Bool, false, cond, _&&_}
+use mathlib.Core.List.{List, [], _∷_}
 use Prim.Native.Nat.{ℕ}
-use lib.Dec.{T, eqb}
-use Rattle.access.specs.Pairs.{Setting, setsPair}
+use lib.Dec.{eqb}
+use Rattle.runs.proofs.Settings as shared
+use Rattle.runs.proofs.Settings.{anew, none, sets-if, Settings}
+use Rattle.access.specs.Pairs.{Setting}
 use Rattle.tables.proofs.Tests.{cases}
 use Rattle.monitor.specs.Monitor.{writeMon}
 use Rattle.monitor.specs.Bytes.{lastEvent}
-use Rattle.bandwidth_model.specs.Rules.{Setup, stored, configLimit, rcidOf, atOf, allocDone, configuredAfter}
+use Rattle.bandwidth_model.specs.Rules.{pairs, stored, configLimit, rcidOf, atOf, allocDone, configuredAfter}
 use Rattle.bandwidth_model.specs.Calls.{Call, reset, read, write, request, endWindow}
-use Rattle.bandwidth_model.specs.Model.{State, afterWindow, writeAlloc, writeBw, withAlloc, withMonitor, writeAt, serve, serveFrom, requested, perform}
-use Rattle.bandwidth_model.specs.Ledger.{Window, Ledger}
+use Rattle.bandwidth_model.specs.Model.{State, afterWindow, writeAlloc, writeBw, withAlloc, withMonitor, writeAt, serve, serveFrom, requested, perform, step}
+use Rattle.bandwidth_model.specs.Ledger.{Window, Ledger, note}
 use Rattle.bandwidth_model.specs.Claim.{settingsBy, isReset}
 use Rattle.bandwidth_model.proofs.Accepted.{accepted-limit}
-use Rattle.access.proofs.Pairs.{Stored, stored-other, sets-one}
-use Rattle.bandwidth_model.proofs.Invariant.{ledgerBy, Inv}
+use Rattle.bandwidth_model.proofs.Invariant.{ledgerBy, Inv, inv-step}
 
--- the setting p, made with the ledger l, stands in the state s
-pub record Back (l : Ledger) (p : Setting) (s : State) : Type 0 where
-  pub setup : s .setup ≡ l .setup
-  pub stands : Stored (s .setup .nr) (s .setup .na) (s .alloc .configured) p
+abbrev Sets : State → State → List Setting → Bool → Type 0
+Sets = shared.Sets (λ s. s .setup) (λ u. u .nr) (λ u. u .na) (λ s. s .alloc .configured)
 
--- the setting that a value written to alloc_ctl names
-abbrev pub settingOf : Setup → ℕ → ℕ → Setting
-settingOf su bw v = record { rcid = rcidOf v; at = atOf su v; word = stored bw }
-
-module _ (l : Ledger) (p : Setting) (s : State) (b : Back l p s) where
-  kept-write : (offset v : ℕ)
-      → T (not (eqb offset 24 && allocDone (s .setup) (s .alloc .configured) (s .alloc .bw) configLimit v && eqb (rcidOf v) (p .rcid) && eqb (atOf (s .setup) v) (p .at)))
-      → Back l p (writeAt s offset v)
+module _ (s : State) where
+  sets-write : (offset v : ℕ)
+      → Sets s (writeAt s offset v)
+      (cond (eqb offset 24 && allocDone (s .setup) (s .alloc .configured) (s .alloc .bw) configLimit v) (record { rcid = rcidOf v; at = atOf (s .setup) v; word = stored (s .alloc .bw) } ∷ []) []) false
   unfolding writeAt withAlloc writeAlloc writeBw withMonitor configuredAfter
-  kept-write offset v =
+  sets-write offset v =
       let su = s .setup in
       let conf = s .alloc .configured in
       let bw = s .alloc .bw in
       let done = allocDone su conf bw configLimit v in
-      let x = withAlloc s (writeAlloc su bw conf v) in
-      let y = withAlloc s (writeBw (s .alloc) v) in
+      let q : Setting = record { rcid = rcidOf v; at = atOf su v; word = stored bw } in
+      let a = withAlloc s (writeAlloc su bw conf v) in
+      let b = withAlloc s (writeBw (s .alloc) v) in
       let m = withMonitor s (writeMon (su .na) (su .nm) lastEvent (s .monitor) v) in
-      cases (λ t. T (not (t && done && eqb (rcidOf v) (p .rcid) && eqb (atOf su v) (p .at))) → Back l p (cond t x (cond (eqb offset 32) y (cond (eqb offset 8) m s)))) (eqb offset 24)
-      (λ t n. record { setup = b .setup; stands = stored-other (su .nr) (su .na) conf (settingOf su bw v) p done (λ d. accepted-limit su conf bw v d .at-low) n (b .stands) })
-      (λ t n. cases (λ t. Back l p (cond t y (cond (eqb offset 8) m s))) (eqb offset 32)
-      (λ t. record { setup = b .setup; stands = b .stands })
-      (λ t. cases (λ t. Back l p (cond t m s)) (eqb offset 8) (λ t. record { setup = b .setup; stands = b .stands }) (λ t. b)))
+      cases (λ x. Sets s (cond x a (cond (eqb offset 32) b (cond (eqb offset 8) m s))) (cond (x && done) (q ∷ []) []) false) (eqb offset 24)
+      (λ t. sets-if _ _ _ _ s a q done refl refl (λ d. let ok = accepted-limit su conf bw v d in (ok .rcid-low, ok .at-low)))
+      (λ t. cases (λ x. Sets s (cond x b (cond (eqb offset 8) m s)) [] false) (eqb offset 32) (λ t. none refl refl)
+      (λ t. cases (λ x. Sets s (cond x m s) [] false) (eqb offset 8) (λ t. none refl refl) (λ t. none refl refl)))
 
-  kept-perform : (asked granted : List ℕ) (sum : ℕ) (closed : List Window) (c : Call) → T (not (isReset c)) → T (not (setsPair (p .rcid) (p .at) (settingsBy (ledgerBy s asked granted sum closed) c))) → Back l p (perform s c .state)
-  unfolding perform isReset settingsBy requested serveFrom serve afterWindow
-  kept-perform asked granted sum closed (reset su) i n = absurd i
-  kept-perform asked granted sum closed (read size offset) i n = b
-  kept-perform asked granted sum closed (write size offset v) i n =
-      kept-write offset v
-      (sets-one (eqb offset 24 && allocDone (s .setup) (s .alloc .configured) (s .alloc .bw) configLimit v) (settingOf (s .setup) (s .alloc .bw) v) (p .rcid) (p .at) n)
-  kept-perform asked granted sum closed (request r m a k d) i n = record { setup = b .setup; stands = b .stands }
-  kept-perform asked granted sum closed endWindow i n = record { setup = b .setup; stands = b .stands }
+  sets-perform : (asked granted : List ℕ) (sum : ℕ) (closed : List Window) (c : Call)
+      → Sets s (perform s c .state) (settingsBy (ledgerBy s asked granted sum closed) c) (isReset c)
+  unfolding perform settingsBy requested serveFrom serve afterWindow
+  sets-perform asked granted sum closed (reset su) = anew
+  sets-perform asked granted sum closed (read size offset) = none refl refl
+  sets-perform asked granted sum closed (write size offset v) = sets-write offset v
+  sets-perform asked granted sum closed (request rcid mcid at kind bytes) = none refl refl
+  sets-perform asked granted sum closed endWindow = none refl refl
 
-pub kept-by : (s : State) (n : Ledger) → Inv s n → (l : Ledger) (p : Setting) → Back l p s → (c : Call) → T (not (isReset c))
-    → T (not (setsPair (p .rcid) (p .at) (settingsBy n c))) → Back l p (perform s c .state)
-kept-by s n i l p b c r t =
-    kept-perform l p s b (i .asked) (i .granted) (i .sum) (i .closed) c r (subst (λ (k : Ledger). T (not (setsPair (p .rcid) (p .at) (settingsBy k c)))) (i .same) t)
+pub setting : Settings step perform isReset settingsBy note Inv (λ s. s .setup) (λ l. l .setup) (λ u. u .nr) (λ u. u .na) (λ s. s .alloc .configured)
+unfolding pairs
+setting = record {
+  inv = inv-step;
+  same = λ s l i. sym (ap (λ (k : Ledger). k .setup) (i .same));
+  long = λ s l i. i .good .configured .long;
+  sets = λ s l i c.
+      subst⁻¹ (λ (k : Ledger). Sets s (perform s c .state) (settingsBy k c) (isReset c)) (i .same) (sets-perform s (i .asked) (i .granted) (i .sum) (i .closed) c);
+}

@@ -1,6 +1,6 @@
 -- Demand 3: one claim about any list of calls that an accepted reset opens, by the ledger.
 use mathlib.Core.Path.{_≡_}
-use mathlib.Core.Bool.{Bool, true, false, cond, _&&_}
+use mathlib.Core.Bool.{Bool, cond, _&&_}
 use mathlib.Core.List.{List, [], _∷_, _++_, List·Memᴰ}
 use Prim.Native.Nat.{ℕ, _+_, _*_, _≤_, _<_, min}
 use lib.Dec.{T}
@@ -9,10 +9,11 @@ use Rattle.runs.specs.Runs.{events}
 use Rattle.runs.specs.Runs as runs
 use Rattle.runs.specs.Settings as shared
 use Rattle.access.specs.Access as access
+use Rattle.access.specs.Checks as checks
 use Rattle.access.specs.Pairs.{pair, wordAt, Setting}
 use Rattle.bandwidth_model.specs.Rules.{Setup, rbwbOf, weightOf, stored, isHolder, total, configLimit, readLimit, opOf, rcidOf, atOf, allocDone, poolOf}
 use Rattle.bandwidth_model.specs.Calls.{Call, reset, read, write, request, endWindow, done, value}
-use Rattle.bandwidth_model.specs.Model.{State, step}
+use Rattle.bandwidth_model.specs.Model.{State, kindOf, step}
 use Rattle.bandwidth_model.specs.Ledger.{Event, Window, Ledger, accepted, note}
 use Rattle.bandwidth_model.specs.Runs.{stateAfter, ledgerAfter, answerAfter, eventAfter}
 
@@ -51,12 +52,8 @@ settingsBy l endWindow = []
 abbrev pub settings : Ledger → Event → List Setting
 settings l e = shared.settings accepted settingsBy l e
 
-unfoldable pub isReset : Call → Bool
-isReset (reset su) = true
-isReset (read size offset) = false
-isReset (write size offset v) = false
-isReset (request rcid mcid at kind bytes) = false
-isReset endWindow = false
+abbrev pub isReset : Call → Bool
+isReset c = checks.isReset (kindOf c)
 
 -- the event sets the pair, or is an accepted reset
 abbrev pub touches : ℕ → ℕ → Ledger → Event → Bool

@@ -1,6 +1,6 @@
 -- The bandwidth controller: its state, and what each call answers and leaves.
 use mathlib.Core.Bool.{Bool, true, not, cond, _&&_, _||_}
-use mathlib.Core.List.{List, [], _∷_, _++_}
+use mathlib.Core.List.{List, [], _∷_}
 use Prim.Native.Nat.{ℕ, _+_, _-_, _*_, min}
 use lib.Dec.{leb, ltb, eqb}
 use lib.ListN.{length, getD, set, take, drop, replicate}
@@ -8,7 +8,7 @@ use Rattle.fields.specs.Layout.{get, pack}
 use Rattle.fields.specs.Registers as reg
 use Rattle.tables.specs.Below.{allBelow}
 use Rattle.runs.specs.Runs as runs
-use Rattle.access.specs.Checks.{Check, _gives_, first}
+use Rattle.access.specs.Checks.{Check, _gives_, first, Kind, resets, other}
 use Rattle.access.specs.Checks as shared
 use Rattle.access.specs.Access as access
 use Rattle.access.specs.Pairs.{pair, wordAt, knownAt}
@@ -96,12 +96,17 @@ setupChecks su s = shared.setupChecks (setupOk su) (lengthsOk su s)
 abbrev pub stateChecks : State → List Check
 stateChecks s = shared.stateChecks (setupOk (s .setup)) (lengthsOk (s .setup) s) (wellFormed s)
 
+-- a reset brings a set-up of its own
+abbrev pub kindOf : Call → Kind Setup
+kindOf (reset su) = resets su
+kindOf (read size offset) = other
+kindOf (write size offset v) = other
+kindOf (request rcid mcid at kind bytes) = other
+kindOf endWindow = other
+
+-- all checks of a call: a reset skips 3
 unfoldable pub checks : State → Call → List Check
-checks s (reset su) = setupChecks su s
-checks s (read size offset) = stateChecks s ++ argumentChecks (s .setup) (read size offset)
-checks s (write size offset v) = stateChecks s ++ argumentChecks (s .setup) (write size offset v)
-checks s (request rcid mcid at kind bytes) = stateChecks s ++ argumentChecks (s .setup) (request rcid mcid at kind bytes)
-checks s endWindow = stateChecks s ++ argumentChecks (s .setup) endWindow
+checks s c = shared.checksOf (λ su. setupChecks su s) (stateChecks s) (argumentChecks (s .setup) c) (kindOf c)
 
 -- the refusal's number, 0 for none
 unfoldable pub refusal : State → Call → ℕ

@@ -1,6 +1,6 @@
 -- What is claimed of any list of calls on a capacity controller that an accepted reset opens, by the ledger.
 use mathlib.Core.Path.{_≡_}
-use mathlib.Core.Bool.{Bool, true, false, cond, _&&_}
+use mathlib.Core.Bool.{Bool, cond, _&&_}
 use mathlib.Core.List.{List, [], _∷_, _++_, List·Memᴰ}
 use Prim.Native.Nat.{ℕ, _*_}
 use lib.Dec.{T}
@@ -8,10 +8,11 @@ use Rattle.runs.specs.Runs.{events}
 use Rattle.runs.specs.Runs as runs
 use Rattle.runs.specs.Settings as shared
 use Rattle.access.specs.Access as access
+use Rattle.access.specs.Checks as checks
 use Rattle.access.specs.Pairs.{wordAt, knownAt, Setting}
 use Rattle.capacity_model.specs.Rules.{Setup, hasBlock, configLimit, readLimit, opOf, rcidOf, atOf, allocDone}
 use Rattle.capacity_model.specs.Calls.{Call, reset, read, write, fill, evict, done, value, allowed}
-use Rattle.capacity_model.specs.Model.{State, step}
+use Rattle.capacity_model.specs.Model.{State, kindOf, step}
 use Rattle.capacity_model.specs.Ledger.{Event, Ledger, accepted, note}
 use Rattle.capacity_model.specs.Runs.{stateAfter, ledgerAfter, answerAfter, eventAfter}
 
@@ -31,12 +32,8 @@ settingsBy l (evict rcid mcid at block) = []
 abbrev pub settings : Ledger → Event → List Setting
 settings l e = shared.settings accepted settingsBy l e
 
-unfoldable pub isReset : Call → Bool
-isReset (reset su) = true
-isReset (read size offset) = false
-isReset (write size offset v) = false
-isReset (fill rcid mcid at block) = false
-isReset (evict rcid mcid at block) = false
+abbrev pub isReset : Call → Bool
+isReset c = checks.isReset (kindOf c)
 
 -- the event sets the pair, or is an accepted reset
 abbrev pub touches : ℕ → ℕ → Ledger → Event → Bool

@@ -1,6 +1,6 @@
 -- The capacity controller: its state, and what each call answers and leaves.
 use mathlib.Core.Bool.{Bool, cond, _&&_, _||_}
-use mathlib.Core.List.{List, [], _∷_, _++_}
+use mathlib.Core.List.{List, [], _∷_}
 use Prim.Native.Nat.{ℕ}
 use lib.Dec.{leb, eqb}
 use lib.ListN.{length, getD}
@@ -8,7 +8,7 @@ use Rattle.fields.specs.Layout.{get, pack}
 use Rattle.fields.specs.Registers as reg
 use Rattle.tables.specs.Below.{allBelow}
 use Rattle.runs.specs.Runs as runs
-use Rattle.access.specs.Checks.{Check, _gives_, first}
+use Rattle.access.specs.Checks.{Check, _gives_, first, Kind, resets, other}
 use Rattle.access.specs.Checks as shared
 use Rattle.access.specs.Access as access
 use Rattle.access.specs.Pairs.{wordAt, knownAt}
@@ -78,12 +78,17 @@ setupChecks su s = shared.setupChecks (setupOk su) (lengthsOk su s)
 abbrev pub stateChecks : State → List Check
 stateChecks s = shared.stateChecks (setupOk (s .setup)) (lengthsOk (s .setup) s) (wellFormed s)
 
+-- a reset brings a set-up of its own
+abbrev pub kindOf : Call → Kind Setup
+kindOf (reset su) = resets su
+kindOf (read size offset) = other
+kindOf (write size offset v) = other
+kindOf (fill rcid mcid at block) = other
+kindOf (evict rcid mcid at block) = other
+
+-- all checks of a call: a reset skips 3
 unfoldable pub checks : State → Call → List Check
-checks s (reset su) = setupChecks su s
-checks s (read size offset) = stateChecks s ++ argumentChecks (s .setup) (read size offset)
-checks s (write size offset v) = stateChecks s ++ argumentChecks (s .setup) (write size offset v)
-checks s (fill rcid mcid at block) = stateChecks s ++ argumentChecks (s .setup) (fill rcid mcid at block)
-checks s (evict rcid mcid at block) = stateChecks s ++ argumentChecks (s .setup) (evict rcid mcid at block)
+checks s c = shared.checksOf (λ su. setupChecks su s) (stateChecks s) (argumentChecks (s .setup) c) (kindOf c)
 
 -- the refusal's number, 0 for none
 unfoldable pub refusal : State → Call → ℕ
