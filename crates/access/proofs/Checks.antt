@@ -67,7 +67,7 @@ pub record Passing (inRange long formed : Bool) : Type 0 where
   pub lengths : T long
   pub wellformed : T formed
 
--- the first that fails, whatever is checked after them
+-- the first that fails
 module _ (a b : Bool) where
   pub setup-fails : T (not a) → first (setupChecks a b) 0 ≡ 1
   unfolding setupChecks
