@@ -6,7 +6,9 @@ use Prim.Native.Nat.{ℕ, _+_, _<_}
 use lib.Dec.{T, leb, lit<, nleb→lt}
 use lib.ListN.{getD, set, replicate}
 use borrow.Author.Tests.{ne-eqb}
+use Rattle.runs.proofs.Checks.{step-failed, step-refused, step-done, reset-failed, reset-done}
 use Rattle.access.specs.Checks.{first}
+use Rattle.access.proofs.Checks.{setup-fails, lengths-fail, setup-passes}
 use Rattle.access.specs.Refusals.{numberOf}
 use Rattle.access.proofs.Refusals.{number-pos}
 use Rattle.access.specs.declared.Refusal.{Refusal}
@@ -19,59 +21,57 @@ use Rattle.monitor.specs.Bytes.{lastEvent, countsRequest, added}
 use Rattle.bandwidth_model.specs.Rules.{Setup, setupOk, pairs, Holder, holderOf, bwWord}
 use Rattle.bandwidth_model.specs.Calls.{Call, reset, read, write, request, endWindow, refused, done, value, granted}
 use Rattle.bandwidth_model.specs.Claim.{isReset}
-use Rattle.bandwidth_model.specs.Model.{State, Allocation, Usage, Outcome, lengthsOk, argumentChecks, stateChecks, readAt, opened, afterReset, afterWindow, Grant, grantOf, grantSum, spend, serve, serveFrom, requested, writeAlloc, writeBw, withAlloc, withMonitor, writeAt, perform, refuse, step}
-use Rattle.bandwidth_model.proofs.Steps.{step-failed, step-refused, step-done, reset-failed, reset-done}
+use Rattle.bandwidth_model.specs.Model.{State, Allocation, Usage, Outcome, lengthsOk, argumentChecks, stateChecks, readAt, opened, afterReset, afterWindow, Grant, grantOf, grantSum, spend, serve, serveFrom, requested, writeAlloc, writeBw, withAlloc, withMonitor, writeAt, perform, step}
+use Rattle.bandwidth_model.proofs.Steps.{checking}
 use Rattle.bandwidth.specs.declared.check.Totals.{Totals}
 use Rattle.bandwidth.specs.View.{outcome}
 use Rattle.bandwidth.specs.Checked.{Passes, Fresh}
-use Rattle.bandwidth.proofs.Checks.{passing, setup-fails, lengths-fail, setup-passes}
+use Rattle.bandwidth.proofs.Checks.{passing}
 
 -- ---- refused or performed
 
 module _ (s : State) (c : Call) (n : T (not (isReset c))) where
   pub call-failed : (r : Refusal) → first (stateChecks s) 0 ≡ numberOf r → outcome (refused (numberOf r)) s ≡ step s c
-  unfolding refuse
-  call-failed r e = step-failed s c n (numberOf r) (number-pos r) e
+  call-failed r e = step-failed checking perform refused s c n (numberOf r) (number-pos r) e
 
   module _ {t : Totals} (p : Passes s t) where
     pub call-refused : (r : Refusal) → first (argumentChecks (s .setup) c) 0 ≡ numberOf r → outcome (refused (numberOf r)) s ≡ step s c
-    unfolding refuse
-    call-refused r e = step-refused s c n (passing p) (numberOf r) (number-pos r) e
+    call-refused r e = step-refused checking perform refused s c n (passing p) (numberOf r) (number-pos r) e
 
     pub call-done : first (argumentChecks (s .setup) c) 0 ≡ 0 → (o : Outcome) → o ≡ perform s c → o ≡ step s c
-    call-done e o q = q ∙ step-done s c n (passing p) e
+    call-done e o q = q ∙ step-done checking perform refused s c n (passing p) e
 
 -- ---- each call
 
 module _ {s : State} {t : Totals} (p : Passes s t) where
   pub read-refused : (size offset : ℕ) (why : Refusal) → numberOf why ≡ first (readChecks size offset) 0 → outcome (refused (numberOf why)) s ≡ step s (read size offset)
-  unfolding isReset argumentChecks
+  unfolding argumentChecks
   read-refused size offset why e = call-refused s (read size offset) tt p why (sym e)
 
   pub read-done : (size offset v : ℕ) → 0 ≡ first (readChecks size offset) 0 → v ≡ readAt s size offset → outcome (value v) s ≡ step s (read size offset)
-  unfolding isReset argumentChecks perform
+  unfolding argumentChecks perform
   read-done size offset v e q = call-done s (read size offset) tt p (sym e) _ (rw q refl)
 
   pub write-refused : (size offset v : ℕ) (why : Refusal) → numberOf why ≡ first (writeChecks size offset v) 0 → outcome (refused (numberOf why)) s ≡ step s (write size offset v)
-  unfolding isReset argumentChecks
+  unfolding argumentChecks
   write-refused size offset v why e = call-refused s (write size offset v) tt p why (sym e)
 
   pub write-done : (size offset v : ℕ) (x : State) → 0 ≡ first (writeChecks size offset v) 0 → x ≡ writeAt s offset v → outcome done x ≡ step s (write size offset v)
-  unfolding isReset argumentChecks perform
+  unfolding argumentChecks perform
   write-done size offset v x e q = call-done s (write size offset v) tt p (sym e) _ (rw q refl)
 
   module _ (rcid mcid at kind bytes : ℕ) where
     pub request-unknown : (leb (s .setup .nr) rcid || leb (s .setup .nm) mcid) ≡ true → outcome (refused 7) s ≡ step s (request rcid mcid at kind bytes)
-    unfolding isReset argumentChecks
+    unfolding argumentChecks
     request-unknown e = call-refused s (request rcid mcid at kind bytes) tt p Identifier (rw e refl)
 
     pub request-done : (leb (s .setup .nr) rcid || leb (s .setup .nm) mcid) ≡ false → (o : Outcome) → o ≡ requested s rcid mcid at kind bytes → o ≡ step s (request rcid mcid at kind bytes)
-    unfolding isReset argumentChecks perform
+    unfolding argumentChecks perform
     request-done e o q = call-done s (request rcid mcid at kind bytes) tt p (rw e refl) o q
 
   pub end-done : (active used : List ℕ) → active ≡ s .alloc .configured → used ≡ replicate (pairs (s .setup)) 0
       → outcome done (record { setup = s .setup; alloc = s .alloc; usage = record { active = active; used = used; pool = 0 }; monitor = s .monitor }) ≡ step s endWindow
-  unfolding isReset argumentChecks perform afterWindow opened
+  unfolding argumentChecks perform afterWindow opened
   end-done active used e f = call-done s endWindow tt p refl _ (rw (e, f) refl)
 
 -- an RCID that passes check 7
@@ -80,12 +80,10 @@ known-rcid nr nm rcid mcid e = nleb→lt nr rcid (nor-l (leb nr rcid) (leb nm mc
 
 module _ (s : State) (su : Setup) where
   pub reset-1 : false ≡ setupOk su → outcome (refused 1) s ≡ step s (reset su)
-  unfolding refuse
-  reset-1 e = reset-failed s su 1 (lit< tt) (setup-fails su s (of-false (sym e)))
+  reset-1 e = reset-failed checking perform refused s su 1 (lit< tt) (setup-fails (setupOk su) (lengthsOk su s) (of-false (sym e)))
 
   pub reset-2 : true ≡ setupOk su → false ≡ lengthsOk su s → outcome (refused 2) s ≡ step s (reset su)
-  unfolding refuse
-  reset-2 e f = reset-failed s su 2 (lit< tt) (lengths-fail su s (of-true (sym e)) (of-false (sym f)))
+  reset-2 e f = reset-failed checking perform refused s su 2 (lit< tt) (lengths-fail (setupOk su) (lengthsOk su s) (of-true (sym e)) (of-false (sym f)))
 
   pub reset-0 : true ≡ setupOk su → true ≡ lengthsOk su s → (active configured used counters events : List ℕ) → Fresh su active configured used counters events
       → outcome done (record {
@@ -96,7 +94,7 @@ module _ (s : State) (su : Setup) where
       }) ≡ step s (reset su)
   unfolding perform afterReset opened cleared
   reset-0 e f active configured used counters events r =
-      rw (r .active-is, r .configured-is, r .used-is, r .counters-are, r .events-are) (reset-done s su (setup-passes su s (of-true (sym e)) (of-true (sym f))))
+      rw (r .active-is, r .configured-is, r .used-is, r .counters-are, r .events-are) (reset-done checking perform refused s su (setup-passes (setupOk su) (lengthsOk su s) (of-true (sym e)) (of-true (sym f))))
 
 -- ---- requests
 

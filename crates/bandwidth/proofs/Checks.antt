@@ -1,6 +1,6 @@
--- Checks 1 to 3 as facts, both ways, and what the first that fails gives.
+-- Checks 1 to 3 as facts, both ways.
 use mathlib.Core.Path.{_≡_, sym, ap, subst, _∙_}
-use mathlib.Core.Bool.{Bool, not, _&&_}
+use mathlib.Core.Bool.{Bool, _&&_}
 use Prim.Native.Nat.{ℕ, _-_, _*_, _<_, _^_}
 use native.Mathlib.Nat.{mod-eq-of-lt}
 use lib.Bits.{and-mask}
@@ -11,12 +11,12 @@ use Rattle.fields.specs.Registers as reg
 use Rattle.fields.proofs.Registers.{bandwidthCounter-kept}
 use Rattle.access.specs.Checks.{first}
 use Rattle.tables.specs.Below.{allBelow}
-use Rattle.tables.proofs.Tests.{and-l, and-r, and-in, eqb-in, cond-yes, cond-no, not-not-in, same-test}
+use Rattle.tables.proofs.Tests.{and-l, and-r, and-in, eqb-in, same-test}
 use Rattle.monitor.specs.Monitor.{monWord, statusOf, counterOk, settingOk, monitorOk}
 use Rattle.monitor.specs.Bytes.{lastEvent}
-use Rattle.bandwidth_model.specs.Rules.{Setup, setupOk, pairs, reserved, total, poolOf}
+use Rattle.bandwidth_model.specs.Rules.{Setup, pairs, reserved, total, poolOf}
 use Rattle.bandwidth_model.specs.Facts.{Sized}
-use Rattle.bandwidth_model.specs.Model.{State, tableOk, usageOk, registersOk, lengthsOk, wellFormed, setupChecks, stateChecks}
+use Rattle.bandwidth_model.specs.Model.{State, tableOk, usageOk, registersOk, lengthsOk, wellFormed, stateChecks}
 use Rattle.bandwidth_model.proofs.Setup.{setup-ok}
 use Rattle.bandwidth_model.proofs.Steps.{Passing}
 use Rattle.bandwidth_model.proofs.Settings.{TableFacts, table-facts}
@@ -40,41 +40,6 @@ lengths-ok su s z = search (eqb-in, and-in) depth 9
 
 pub passing : {s : State} {t : Totals} → Passes s t → Passing s
 passing {s} p = record { setup = setup-ok (s .setup) (p .ranges); lengths = lengths-ok (s .setup) s (p .sized); wellformed = p .wellformed }
-
--- ---- the first check that fails
-
-module _ (su : Setup) (s : State) where
-  pub setup-fails : T (not (setupOk su)) → first (setupChecks su s) 0 ≡ 1
-  unfolding setupChecks
-  setup-fails n = cond-yes {A = ℕ} (not (setupOk su)) 1 _ n
-
-  pub lengths-fail : T (setupOk su) → T (not (lengthsOk su s)) → first (setupChecks su s) 0 ≡ 2
-  unfolding setupChecks
-  lengths-fail t n =
-      cond-no {A = ℕ} (not (setupOk su)) 1 _ (not-not-in (setupOk su) t) ∙ cond-yes {A = ℕ} (not (lengthsOk su s)) 2 0 n
-
-  pub setup-passes : T (setupOk su) → T (lengthsOk su s) → first (setupChecks su s) 0 ≡ 0
-  unfolding setupChecks
-  setup-passes t l =
-      cond-no {A = ℕ} (not (setupOk su)) 1 _ (not-not-in (setupOk su) t) ∙ cond-no {A = ℕ} (not (lengthsOk su s)) 2 0 (not-not-in (lengthsOk su s) l)
-
-module _ (s : State) where
-  pub check-1 : T (not (setupOk (s .setup))) → first (stateChecks s) 0 ≡ 1
-  unfolding stateChecks setupChecks
-  check-1 n = cond-yes {A = ℕ} (not (setupOk (s .setup))) 1 _ n
-
-  pub check-2 : T (setupOk (s .setup)) → T (not (lengthsOk (s .setup) s)) → first (stateChecks s) 0 ≡ 2
-  unfolding stateChecks setupChecks
-  check-2 t n =
-      cond-no {A = ℕ} (not (setupOk (s .setup))) 1 _ (not-not-in (setupOk (s .setup)) t)
-      ∙ cond-yes {A = ℕ} (not (lengthsOk (s .setup) s)) 2 _ n
-
-  pub check-3 : T (setupOk (s .setup)) → T (lengthsOk (s .setup) s) → T (not (wellFormed s)) → first (stateChecks s) 0 ≡ 3
-  unfolding stateChecks setupChecks
-  check-3 t l n =
-      cond-no {A = ℕ} (not (setupOk (s .setup))) 1 _ (not-not-in (setupOk (s .setup)) t)
-      ∙ cond-no {A = ℕ} (not (lengthsOk (s .setup) s)) 2 _ (not-not-in (lengthsOk (s .setup) s) l)
-      ∙ cond-yes {A = ℕ} (not (wellFormed s)) 3 0 n
 
 -- ---- check 3
 

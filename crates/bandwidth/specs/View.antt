@@ -6,10 +6,10 @@ use Rattle.bandwidth_model.specs.Calls.{Answer, refused, done, value, granted}
 use Rattle.bandwidth_model.specs.Model.{State, Outcome}
 use Rattle.setup.specs.View.{setupOf}
 use Rattle.bandwidth.specs.declared.Record.{Record}
-use Rattle.bandwidth.specs.declared.Ack.{Ack}
-use Rattle.bandwidth.specs.declared.Ack.the-variants as ack
-use Rattle.bandwidth.specs.declared.Reading.{Reading}
-use Rattle.bandwidth.specs.declared.Reading.the-variants as reading
+use Rattle.access.specs.declared.Ack.{Ack}
+use Rattle.access.specs.declared.Ack.the-variants as ack
+use Rattle.access.specs.declared.Reading.{Reading}
+use Rattle.access.specs.declared.Reading.the-variants as reading
 use Rattle.bandwidth.specs.declared.Granting.{Granting}
 use Rattle.bandwidth.specs.declared.Granting.the-variants as granting
 

@@ -6,6 +6,8 @@ mod reset;
 mod row;
 mod window;
 
+use access::Ack;
+use access::Reading;
 use access::Refusal;
 use setup::Setup;
 
@@ -17,18 +19,6 @@ pub struct Record {
     pub alloc_ctl: u64,
     pub bw_alloc: u64,
     pub pool: u64,
-}
-
-// The answer of a reset, a write and a window end.
-pub enum Ack {
-    Done,
-    Refused(Refusal),
-}
-
-// The answer of a read.
-pub enum Reading {
-    Value(u64),
-    Refused(Refusal),
 }
 
 // The answer of a request.

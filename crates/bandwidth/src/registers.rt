@@ -1,11 +1,11 @@
 // Reads and writes of the registers.
-use crate::Ack;
 use crate::Acked;
 use crate::Read;
-use crate::Reading;
 use crate::Record;
 use crate::check::Check;
 use crate::check::Totals;
+use access::Ack;
+use access::Reading;
 use access::Verdict;
 use access::part;
 use access::read_verdict;

@@ -1,7 +1,7 @@
 // Resets.
-use crate::Ack;
 use crate::Acked;
 use crate::Record;
+use access::Ack;
 use access::Refusal;
 use fields::BwAlloc;
 use setup::Setup;

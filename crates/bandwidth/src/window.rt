@@ -1,8 +1,8 @@
 // Window ends.
-use crate::Ack;
 use crate::Acked;
 use crate::Record;
 use crate::check::Check;
+use access::Ack;
 use tables::copy32;
 use tables::fill32;
 ghost use mathlib.Core.Path.{_≡_};

@@ -20,8 +20,9 @@ use Rattle.monitor.specs.Occupancy.{lastEvent, countsBlock, filled, evicted}
 use Rattle.capacity_model.specs.Rules.{Setup, maskOf, resetMasks}
 use Rattle.capacity_model.specs.Calls.{Call, reset, fill, evict, refused, done, value, allowed}
 use Rattle.capacity_model.specs.Claim.{isReset}
-use Rattle.capacity_model.specs.Model.{State, Allocation, Outcome, argumentChecks, setupChecks, stateChecks, afterReset, writeAlloc, writeMask, withAlloc, withMonitor, writeAt, noteBlock, fillAllowed, fillWith, perform, refuse, step}
-use Rattle.capacity_model.proofs.Steps.{step-failed, step-refused, step-done, reset-failed, reset-done}
+use Rattle.capacity_model.specs.Model.{State, Allocation, Outcome, argumentChecks, setupChecks, stateChecks, afterReset, writeAlloc, writeMask, withAlloc, withMonitor, writeAt, noteBlock, fillAllowed, fillWith, perform, step}
+use Rattle.runs.proofs.Checks.{step-failed, step-refused, step-done, reset-failed, reset-done}
+use Rattle.capacity_model.proofs.Steps.{checking}
 use Rattle.capacity.specs.View.{outcome}
 use Rattle.capacity.proofs.Checks.{passing}
 
@@ -29,26 +30,23 @@ use Rattle.capacity.proofs.Checks.{passing}
 
 module _ (s : State) (c : Call) (n : T (not (isReset c))) where
   pub call-failed : (r : Refusal) → numberOf r ≡ first (stateChecks s) 0 → outcome (refused (numberOf r)) s ≡ step s c
-  unfolding refuse
-  call-failed r e = step-failed s c n (numberOf r) (number-pos r) (sym e)
+  call-failed r e = step-failed checking perform refused s c n (numberOf r) (number-pos r) (sym e)
 
   module _ (p : 0 ≡ first (stateChecks s) 0) where
     pub call-refused : (r : Refusal) → numberOf r ≡ first (argumentChecks (s .setup) c) 0 → outcome (refused (numberOf r)) s ≡ step s c
-    unfolding refuse
-    call-refused r e = step-refused s c n (passing s p) (numberOf r) (number-pos r) (sym e)
+    call-refused r e = step-refused checking perform refused s c n (passing s p) (numberOf r) (number-pos r) (sym e)
 
     pub call-done : 0 ≡ first (argumentChecks (s .setup) c) 0 → (o : Outcome) → o ≡ perform s c → o ≡ step s c
-    call-done e o q = q ∙ step-done s c n (passing s p) (sym e)
+    call-done e o q = q ∙ step-done checking perform refused s c n (passing s p) (sym e)
 
 module _ (s : State) (su : Setup) where
   pub reset-refused : (r : Refusal) → numberOf r ≡ first (setupChecks su s) 0 → outcome (refused (numberOf r)) s ≡ step s (reset su)
-  unfolding refuse
-  reset-refused r e = reset-failed s su (numberOf r) (number-pos r) (sym e)
+  reset-refused r e = reset-failed checking perform refused s su (numberOf r) (number-pos r) (sym e)
 
   pub reset-performed : 0 ≡ first (setupChecks su s) 0 → (masks counters events : List ℕ) → masks ≡ resetMasks su → counters ≡ replicate (su .nm) 0 → events ≡ replicate (su .nm) 0
       → outcome done (record { setup = su; alloc = record { ctl = 0; mask = 0; masks = masks }; monitor = record { ctl = 0; value = 0; counters = counters; events = events } }) ≡ step s (reset su)
   unfolding perform afterReset cleared
-  reset-performed e masks counters events m k v = rw (m, k, v) (reset-done s su (sym e))
+  reset-performed e masks counters events m k v = rw (m, k, v) (reset-done checking perform refused s su (sym e))
 
 -- ---- writes
 

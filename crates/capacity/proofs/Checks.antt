@@ -12,6 +12,7 @@ use Rattle.fields.proofs.Registers.{capacityCounter-kept}
 use Rattle.tables.specs.Below.{allBelow}
 use Rattle.tables.proofs.Tests.{and-l, and-r, not-not, nor-l, nor-r}
 use Rattle.tables.proofs.Laws.{all-at}
+use Rattle.access.specs.Checks as access
 use Rattle.access.specs.Checks.{_gives_, first}
 use Rattle.access.proofs.Checks.{first-append, first-other, first-passes, none-holds}
 use Rattle.allocation.specs.Allocation.{controlOk}
@@ -33,25 +34,25 @@ sized su s t = search (eqb→eq, and-l, and-r) depth 9
 
 module _ (su : Setup) (s : State) (e : 0 ≡ first (setupChecks su s) 0) where
   pub setup-passed : T (setupOk su)
-  unfolding setupChecks
+  unfolding access.setupChecks
   setup-passed = not-not (setupOk su) (none-holds 0 (setupChecks su s) 0 tt (sym e) .0 .0)
 
   pub lengths-passed : Sized su (s .alloc .masks) (s .monitor .counters) (s .monitor .events)
-  unfolding setupChecks
+  unfolding access.setupChecks
   lengths-passed = sized su s (not-not (lengthsOk su s) (none-holds 0 (setupChecks su s) 0 tt (sym e) .0 .1 .0))
 
 -- ---- check 3 after them
 
 module _ (s : State) where
   state-first : first (stateChecks s) 0 ≡ first (setupChecks (s .setup) s) (cond (not (wellFormed s)) 3 0)
-  unfolding stateChecks
+  unfolding access.stateChecks
   state-first = first-append (setupChecks (s .setup) s) ((not (wellFormed s) gives 3) ∷ []) 0
 
   pub state-failed : (n : ℕ) → 0 < n → n ≡ first (setupChecks (s .setup) s) 0 → n ≡ first (stateChecks s) 0
   state-failed n h e = sym (state-first ∙ first-other (setupChecks (s .setup) s) n _ h (sym e))
 
   pub state-judged : 0 ≡ first (setupChecks (s .setup) s) 0 → (b : Bool) → b ≡ wellFormed s → cond b 0 3 ≡ first (stateChecks s) 0
-  unfolding setupChecks
+  unfolding access.setupChecks
   state-judged e b q = sym (state-first ∙ first-passes (setupChecks (s .setup) s) _ tt e ∙ rw (← q) (turned b))
     where
       turned : (b : Bool) → _≡_ {A = ℕ} (cond (not b) 3 0) (cond b 0 3)
@@ -59,7 +60,7 @@ module _ (s : State) where
       turned false = refl
 
   pub passing : 0 ≡ first (stateChecks s) 0 → Passing s
-  unfolding stateChecks setupChecks
+  unfolding access.stateChecks access.setupChecks
   passing e =
       let f = none-holds 0 (stateChecks s) 0 tt (sym e) .0 in
       record {

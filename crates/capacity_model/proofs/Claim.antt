@@ -3,18 +3,22 @@ use mathlib.Core.Path.{_≡_, refl, sym, ap, _∙_}
 use mathlib.Core.Bool.{Bool}
 use mathlib.Core.List.{List, [], _∷_, _++_}
 use Prim.Native.Nat.{ℕ}
+use Rattle.runs.proofs.Laws.{state-one}
+use Rattle.runs.proofs.Settings.{Back, stands, standing}
 use Rattle.access.specs.Access as access
-use Rattle.access.specs.Pairs.{wordAt, knownAt}
+use Rattle.access.specs.Pairs.{wordAt, knownAt, Setting}
+use Rattle.allocation.specs.Allocation.{atOf}
 use Rattle.capacity_model.specs.Rules.{Setup, hasBlock}
 use Rattle.capacity_model.specs.Calls.{Call, reset, read, write, fill, done, value, allowed}
 use Rattle.capacity_model.specs.Model.{State, register, readAt, fillAllowed, step}
-use Rattle.capacity_model.specs.Ledger.{Ledger}
-use Rattle.capacity_model.specs.Runs.{stateAfter, ledgerAfter, answerAfter, eventAfter}
-use Rattle.capacity_model.specs.Claim.{Setting, Stands, Claim, Claims}
+use Rattle.capacity_model.specs.Ledger.{Ledger, started}
+use Rattle.capacity_model.specs.Runs.{stateAfter, ledgerAfter}
+use Rattle.capacity_model.specs.Claim.{Stands, Claim, Claims}
 use Rattle.capacity_model.proofs.Invariant.{Inv}
-use Rattle.capacity_model.proofs.Steps.{value-is, allowed-is}
-use Rattle.capacity_model.proofs.Lists.{inv-after, state-one, state-more}
-use Rattle.capacity_model.proofs.ReadBack.{Back, back, back-later, read-back}
+use Rattle.capacity_model.proofs.Steps.{accepting, value-is, allowed-is}
+use Rattle.capacity_model.proofs.Lists.{inv-first, inv-after}
+use Rattle.capacity_model.proofs.Kept.{setting}
+use Rattle.capacity_model.proofs.ReadBack.{read-back}
 
 module _ (s : State) (l : Ledger) (i : Inv s l) where
   mask-read : (size offset v : ℕ) → access.registerAt offset ≡ access.operand → step s (read size offset) .answer ≡ value v → v ≡ access.part size offset (l .mask)
@@ -27,30 +31,28 @@ module _ (s : State) (l : Ledger) (i : Inv s l) where
   fill-is rcid mcid at block b a = allowed-is s rcid mcid at block b a ∙ rw (i .same) refl
 
 module _ (s : State) (su : Setup) (e : step s (reset su) .answer ≡ done) where
-  stands : (before between : List Call) (c : Call) (p : Setting) → Stands s su before between c p
-      → Back (ledgerAfter s su before) p (stateAfter s su (before ++ c ∷ between))
-  unfolding eventAfter answerAfter
-  stands before between c p k =
-      rw (state-more s su before between c)
-      (back-later (ledgerAfter s su before) p (step (stateAfter s su before) c .state) (ledgerAfter s su (before ++ c ∷ []))
-      (rw (state-one s su before c) at (inv-after s su e (before ++ c ∷ [])))
-      (back (stateAfter s su before) (ledgerAfter s su before) (inv-after s su e before) c p (k .made)) between (rw (state-one s su before c) at (k .kept)))
+  back : (before between : List Call) (c : Call) (p : Setting) → Stands s su before between c p
+      → Back (λ s. s .setup) (λ u. u .nr) (λ u. u .na) (λ s. s .alloc .masks) (ledgerAfter s su before .setup) p (stateAfter s su (before ++ c ∷ between))
+  back before between c p k = stands (standing accepting setting) reset started s su (inv-first s su e) before between c p (k .made) (k .kept)
 
   claim : (cs : List Call) → Claim s su cs
-  unfolding answerAfter access.part
+  unfolding access.part
   claim cs = record {
     masks = λ before after q. sym (ap (λ (k : Ledger). k .masks) (inv-after s su e before .same));
     reads = λ before after size offset v q o a. mask-read (stateAfter s su before) (ledgerAfter s su before) (inv-after s su e before) size offset v o a;
     fills = λ before after rcid mcid at block b q a. fill-is (stateAfter s su before) (ledgerAfter s su before) (inv-after s su e before) rcid mcid at block b a;
-    kept = λ before between after c p q k. stands before between c p k .word;
+    kept = λ before between after c p q k.
+        let b = back before between c p k in
+        rw (ap (λ (x : Setup). x .na) (b .same)) at (b .stands .word);
     readBack = λ before between after c p size v x q k o er ea a r.
         let l = before ++ c ∷ between in
         let w = write size 24 v in
+        let b = back before between c p k in
         let i = inv-after s su e (l ++ w ∷ []) in
         mask-read (stateAfter s su (l ++ w ∷ [])) (ledgerAfter s su (l ++ w ∷ [])) i 8 32 x refl r
         ∙ ap (λ (k : Ledger). k .mask) (i .same)
-        ∙ ap (λ (y : State). y .alloc .mask) (state-one s su l w)
-        ∙ read-back (ledgerAfter s su before) p (stateAfter s su l) (stands before between c p k) size v o er ea a;
+        ∙ ap (λ (y : State). y .alloc .mask) (state-one step reset s su l w)
+        ∙ read-back (stateAfter s su l) p (b .stands) size v o er (ap (λ (x : Setup). atOf (x .na) v) (b .same) ∙ ea) a;
   }
 
 pub claims : Claims

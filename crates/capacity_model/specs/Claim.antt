@@ -1,65 +1,55 @@
 -- What is claimed of any list of calls on a capacity controller that an accepted reset opens, by the ledger.
 use mathlib.Core.Path.{_≡_}
-use mathlib.Core.Bool.{Bool, true, false, not, cond, _&&_, _||_}
+use mathlib.Core.Bool.{Bool, cond, _&&_}
 use mathlib.Core.List.{List, [], _∷_, _++_, List·Memᴰ}
 use Prim.Native.Nat.{ℕ, _*_}
-use lib.Dec.{eqb, T}
+use lib.Dec.{T}
 use Rattle.runs.specs.Runs.{events}
+use Rattle.runs.specs.Runs as runs
+use Rattle.runs.specs.Settings as shared
 use Rattle.access.specs.Access as access
-use Rattle.access.specs.Pairs.{wordAt, knownAt}
+use Rattle.access.specs.Checks as checks
+use Rattle.access.specs.Pairs.{wordAt, knownAt, Setting}
 use Rattle.allocation.specs.Allocation.{configLimit, readLimit, opOf, rcidOf, atOf}
 use Rattle.capacity_model.specs.Rules.{Setup, hasBlock, allocDone}
 use Rattle.capacity_model.specs.Calls.{Call, reset, read, write, fill, evict, done, value, allowed}
-use Rattle.capacity_model.specs.Model.{State, step}
+use Rattle.capacity_model.specs.Model.{State, kindOf, step}
 use Rattle.capacity_model.specs.Ledger.{Event, Ledger, accepted, note}
 use Rattle.capacity_model.specs.Runs.{stateAfter, ledgerAfter, answerAfter, eventAfter}
 
 -- ---- accepted masks, and what ends one
 
-pub record Setting : Type 0 where
-  pub rcid : ℕ
-  pub at : ℕ
-  pub mask : ℕ
-
--- the settings that an accepted call makes, by the ledger as it stood before the call
+-- the settings, each of a pair's mask, that an accepted call makes, by the ledger as it stood before the call
 unfoldable pub settingsBy : Ledger → Call → List Setting
 settingsBy l (reset su) = []
 settingsBy l (read size offset) = []
 settingsBy l (write size offset v) =
     cond (access.writesLow offset access.allocCtl && allocDone (l .setup) (l .mask) configLimit v)
-    (record { rcid = rcidOf v; at = atOf (l .setup .na) v; mask = l .mask } ∷ []) []
+    (record { rcid = rcidOf v; at = atOf (l .setup .na) v; word = l .mask } ∷ []) []
 settingsBy l (fill rcid mcid at block) = []
 settingsBy l (evict rcid mcid at block) = []
 
-unfoldable pub settings : Ledger → Event → List Setting
-settings l e = cond (accepted (e .answer)) (settingsBy l (e .call)) []
+-- the settings of an event, none where it is refused
+abbrev pub settings : Ledger → Event → List Setting
+settings l e = shared.settings accepted settingsBy l e
 
-unfoldable pub setsPair : ℕ → ℕ → List Setting → Bool
-setsPair rcid at [] = false
-setsPair rcid at (p ∷ ps) = (eqb (p .rcid) rcid && eqb (p .at) at) || setsPair rcid at ps
-
-unfoldable pub isReset : Call → Bool
-isReset (reset su) = true
-isReset (read size offset) = false
-isReset (write size offset v) = false
-isReset (fill rcid mcid at block) = false
-isReset (evict rcid mcid at block) = false
+abbrev pub isReset : Call → Bool
+isReset c = checks.isReset (kindOf c)
 
 -- the event sets the pair, or is an accepted reset
-unfoldable pub touches : Ledger → ℕ → ℕ → Event → Bool
-touches l rcid at e = (accepted (e .answer) && isReset (e .call)) || setsPair rcid at (settings l e)
+abbrev pub touches : ℕ → ℕ → Ledger → Event → Bool
+touches rcid at l e = shared.touches accepted isReset settingsBy rcid at l e
 
--- no event of the list does
-unfoldable pub untouched : Ledger → ℕ → ℕ → List Event → Bool
-untouched l rcid at [] = true
-untouched l rcid at (e ∷ es) = not (touches l rcid at e) && untouched (note l e) rcid at es
+-- no event of the list does, by the ledger as it stood before the list
+abbrev pub untouched : ℕ → ℕ → Ledger → List Event → Bool
+untouched rcid at l es = runs.untouched note (touches rcid at) l es
 
 -- ---- the claim; s is any record and tables, su the set-up of the reset that opens the list cs
 
 -- the setting p, made by the call c after before, still stands after between
 pub record Stands (s : State) (su : Setup) (before between : List Call) (c : Call) (p : Setting) : Type 0 where
   pub made : List·Memᴰ p (settings (ledgerAfter s su before) (eventAfter s su before c))
-  pub kept : T (untouched (ledgerAfter s su (before ++ c ∷ [])) (p .rcid) (p .at) (events step (stateAfter s su (before ++ c ∷ [])) between))
+  pub kept : T (untouched (p .rcid) (p .at) (ledgerAfter s su (before ++ c ∷ [])) (events step (stateAfter s su (before ++ c ∷ [])) between))
 
 pub record Claim (s : State) (su : Setup) (cs : List Call) : Type 0 where
   -- at each moment all masks are the ledger's
@@ -76,7 +66,7 @@ pub record Claim (s : State) (su : Setup) (cs : List Call) : Type 0 where
   -- an accepted mask stays in the table
   pub kept : (before between after : List Call) (c : Call) (p : Setting) → cs ≡ before ++ c ∷ between ++ after
       → Stands s su before between c p
-      → wordAt (ledgerAfter s su before .setup .na) (stateAfter s su (before ++ c ∷ between) .alloc .masks) (p .rcid) (p .at) ≡ p .mask
+      → wordAt (ledgerAfter s su before .setup .na) (stateAfter s su (before ++ c ∷ between) .alloc .masks) (p .rcid) (p .at) ≡ p .word
   -- and reads back through a READ_LIMIT and a read of block_mask
   pub readBack : (before between after : List Call) (c : Call) (p : Setting) (size v x : ℕ)
       → cs ≡ before ++ c ∷ between ++ write size (8 * access.allocCtl) v ∷ read 8 (8 * access.operand) ∷ after
@@ -84,7 +74,7 @@ pub record Claim (s : State) (su : Setup) (cs : List Call) : Type 0 where
       → opOf v ≡ readLimit → rcidOf v ≡ p .rcid → atOf (ledgerAfter s su before .setup .na) v ≡ p .at
       → T (accepted (answerAfter s su (before ++ c ∷ between) (write size (8 * access.allocCtl) v)))
       → answerAfter s su (before ++ c ∷ between ++ write size (8 * access.allocCtl) v ∷ []) (read 8 (8 * access.operand)) ≡ value x
-      → x ≡ p .mask
+      → x ≡ p .word
 
 pub record Claims : Type 0 where
   pub always : (s : State) (su : Setup) (cs : List Call) → step s (reset su) .answer ≡ done → Claim s su cs

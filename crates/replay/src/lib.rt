@@ -1,10 +1,10 @@
 // Replays a trace: eight words for a call, its kind and seven numbers, and two for its answer.
+use access::Ack;
+use access::Reading;
 use access::Refusal;
-use bandwidth::Ack;
 use bandwidth::Acked;
 use bandwidth::Granting;
 use bandwidth::Read;
-use bandwidth::Reading;
 use bandwidth::Record;
 use bandwidth::Served;
 use setup::Setup;

@@ -2,7 +2,7 @@
 use mathlib.Core.Path.{refl, sym, _∙_}
 use borrow.Author.Needs.{needs}
 use Rattle.tables.proofs.Tests.{of-true}
-use Rattle.capacity_model.specs.Model.{setupChecks}
+use Rattle.access.specs.Checks.{setupChecks}
 use Rattle.capacity_model.proofs.Setup.{ranges}
 use Rattle.capacity.proofs.Record.check_setup.Statement.{statement}
 use Rattle.capacity.proofs.Record.check_setup.Tie as tie

@@ -3,7 +3,6 @@ use mathlib.Core.Path.{sym, ap, _∙_}
 use borrow.Author.Needs.{needs}
 use Rattle.access.specs.Refusals.{verdictOf}
 use Rattle.capacity_model.specs.Calls.{fill}
-use Rattle.capacity_model.specs.Claim.{isReset}
 use Rattle.capacity_model.specs.Model.{argumentChecks}
 use Rattle.capacity.proofs.Checks.{passes, named, counter-low}
 use Rattle.capacity.proofs.Calls.{call-failed, call-refused, call-done, fill-counted, fill-not}
@@ -22,24 +21,23 @@ count-fill-requires c κs =
     (p .ranges .w-high, counter-low _ p _ (n .mcid-in))
 
 returns : tie.Need-returns
-unfolding isReset
 returns c = call-failed _ (fill _ _ _ _) tt (c .before .why .given .0 .0) (sym (ap verdictOf (c .before .why .given .1)) ∙ c .before .before .before .check .ensures)
 
 returns-2 : tie.Need-returns-2
-unfolding isReset argumentChecks
+unfolding argumentChecks
 returns-2 c =
     call-refused _ (fill _ _ _ _) tt (sym (ap verdictOf (c .before .before .before .before .enum-told .given .1)) ∙ c .before .before .before .before .before .before .check .ensures) (c .before .why2 .given .0 .0)
     (sym (ap verdictOf (c .before .why2 .given .1)) ∙ c .before .before .before .block-verdict .ensures)
 
 returns-3 : tie.Need-returns-3
-unfolding isReset argumentChecks
+unfolding argumentChecks
 returns-3 c =
     call-done _ (fill _ _ _ _) tt (sym (ap verdictOf (c .before .before .before .before .before .before .before .before .before .before .before .enum-told .given .1)) ∙ c .before .before .before .before .before .before .before .before .before .before .before .before .before .check .ensures)
     (sym (ap verdictOf (c .before .before .before .before .before .before .before .before .enum-told2 .given .1)) ∙ c .before .before .before .before .before .before .before .before .before .before .block-verdict .ensures) _
     (fill-counted _ _ _ _ _ _ _ (c .before .before .before .known-at .ensures) (sym (c .before .before .before .before .before .if1 .taken) ∙ c .before .before .before .before .before .before .fill-allowed .ensures) (c .before .before .count-fill .ensures))
 
 returns-4 : tie.Need-returns-4
-unfolding isReset argumentChecks
+unfolding argumentChecks
 returns-4 c =
     call-done _ (fill _ _ _ _) tt (sym (ap verdictOf (c .before .before .before .before .before .before .enum-told .given .1)) ∙ c .before .before .before .before .before .before .before .before .check .ensures)
     (sym (ap verdictOf (c .before .before .before .enum-told2 .given .1)) ∙ c .before .before .before .before .before .block-verdict .ensures) _ (fill-not _ _ _ _ _ (sym (c .if1 .left) ∙ c .before .fill-allowed .ensures))

@@ -3,7 +3,6 @@ use mathlib.Core.Path.{refl, sym, ap, _∙_}
 use borrow.Author.Needs.{needs}
 use Rattle.access.specs.Refusals.{verdictOf}
 use Rattle.capacity_model.specs.Calls.{write}
-use Rattle.capacity_model.specs.Claim.{isReset}
 use Rattle.capacity_model.specs.Model.{argumentChecks, perform}
 use Rattle.capacity.proofs.Checks.{passes}
 use Rattle.capacity.proofs.Calls.{call-failed, call-refused, call-done}
@@ -17,17 +16,16 @@ store-requires c κs = (
 )
 
 returns : tie.Need-returns
-unfolding isReset
 returns c = call-failed _ (write _ _ _) tt (c .before .why .given .0 .0) (sym (ap verdictOf (c .before .why .given .1)) ∙ c .before .before .before .check .ensures)
 
 returns-2 : tie.Need-returns-2
-unfolding isReset argumentChecks
+unfolding argumentChecks
 returns-2 c =
     call-refused _ (write _ _ _) tt (sym (ap verdictOf (c .before .before .before .before .enum-told .given .1)) ∙ c .before .before .before .before .before .before .check .ensures) (c .before .why2 .given .0 .0)
     (sym (ap verdictOf (c .before .why2 .given .1)) ∙ c .before .before .before .write-verdict .ensures)
 
 returns-3 : tie.Need-returns-3
-unfolding isReset argumentChecks perform
+unfolding argumentChecks perform
 returns-3 c =
     call-done _ (write _ _ _) tt (sym (ap verdictOf (c .before .before .before .before .before .before .before .before .before .before .before .before .before .enum-told .given .1)) ∙ c .before .before .before .before .before .before .before .before .before .before .before .before .before .before .before .check .ensures)
     (sym (ap verdictOf (c .before .before .before .before .before .before .before .before .before .before .enum-told2 .given .1)) ∙ c .before .before .before .before .before .before .before .before .before .before .before .before .write-verdict .ensures) _ (rw (c .before .before .before .before .before .before .store .ensures) refl)
