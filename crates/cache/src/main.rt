@@ -5,8 +5,8 @@ use access::Reading;
 use access::Refusal;
 use capacity::Filling;
 use capacity::Record;
-use capacity::Setup;
 use libc::STDOUT_FILENO;
+use masks::Setup;
 
 // A controller with its tables.
 struct Cache {

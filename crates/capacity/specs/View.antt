@@ -1,4 +1,4 @@
--- The code's set-up, record, tables and answers as the model's.
+-- The code's record, tables and answers as the model's.
 use mathlib.Core.Bool.{true, false}
 use mathlib.Core.List.{List}
 use Prim.Native.Nat.{ℕ}
@@ -7,20 +7,12 @@ use Rattle.access.specs.declared.Ack.{Ack}
 use Rattle.access.specs.declared.Ack.the-variants as ack
 use Rattle.access.specs.declared.Reading.{Reading}
 use Rattle.access.specs.declared.Reading.the-variants as reading
-use Rattle.capacity_model.specs.Rules as rules
 use Rattle.capacity_model.specs.Calls.{Answer, refused, done, value, allowed}
-use Rattle.capacity_model.specs.Model.{Allocation, State, Outcome}
-use Rattle.capacity.specs.declared.setup.Setup.{Setup}
+use Rattle.capacity_model.specs.Model.{State, Outcome}
+use Rattle.masks.specs.View.{setupOf, allocation}
 use Rattle.capacity.specs.declared.Record.{Record}
 use Rattle.capacity.specs.declared.Filling.{Filling}
 use Rattle.capacity.specs.declared.Filling.the-variants as filling
-
-abbrev pub setupOf : Setup → rules.Setup
-setupOf s = record { ncblks = s .ncblks; nr = s .nr; na = s .na; nm = s .nm; w = s .w }
-
--- alloc_ctl, block_mask and the masks
-abbrev pub allocation : ℕ → ℕ → List ℕ → Allocation
-allocation ctl mask masks = record { ctl = ctl; mask = mask; masks = masks }
 
 -- the record with the masks, counters and counter settings
 abbrev pub state : Record → List ℕ → List ℕ → List ℕ → State

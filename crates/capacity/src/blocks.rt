@@ -3,13 +3,13 @@ use crate::Acked;
 use crate::Filled;
 use crate::Filling;
 use crate::Record;
-use crate::masks::has_block;
-use crate::setup::Setup;
 use access::Ack;
 use access::Refusal;
 use access::Verdict;
 use access::known_at;
 use access::place;
+use masks::Setup;
+use masks::has_block;
 use monitor::count_evict;
 use monitor::count_fill;
 use tables::word64;
@@ -20,7 +20,8 @@ ghost use Rattle.access.specs.Refusals.{verdictOf};
 ghost use Rattle.capacity_model.specs.Facts.{Ranges};
 ghost use Rattle.capacity_model.specs.Calls.{fill, evict};
 ghost use Rattle.capacity_model.specs.Model.{blockChecks, fillAllowed, step};
-ghost use Rattle.capacity.specs.View.{setupOf, state, outcome, ackOf, fillingOf};
+ghost use Rattle.masks.specs.View.{setupOf};
+ghost use Rattle.capacity.specs.View.{state, outcome, ackOf, fillingOf};
 
 // Checks 7 and 8.
 fn block_verdict(setup: Setup, rcid: u64, mcid: u64, block: u64) -> Verdict

@@ -1,11 +1,11 @@
 // Checks 1 to 3.
 use crate::Record;
-use crate::masks::mask_of;
-use crate::masks::masks_ok;
-use crate::setup::Setup;
 use access::Refusal;
 use access::Verdict;
 use allocation::control_ok;
+use masks::Setup;
+use masks::mask_of;
+use masks::masks_ok;
 use monitor::capacity_counters_ok;
 use monitor::events_ok;
 ghost use mathlib.Core.Path.{_≡_};
@@ -13,7 +13,8 @@ ghost use Rattle.access.specs.Checks.{first};
 ghost use Rattle.access.specs.Refusals.{verdictOf};
 ghost use Rattle.capacity_model.specs.Facts.{Ranges, Sized};
 ghost use Rattle.capacity_model.specs.Model.{lengthsOk, wellFormed, setupChecks, stateChecks};
-ghost use Rattle.capacity.specs.View.{setupOf, state};
+ghost use Rattle.masks.specs.View.{setupOf};
+ghost use Rattle.capacity.specs.View.{state};
 
 // The highest EVT_ID that the capacity controller knows.
 const LAST_EVENT: u16 = 1;

@@ -1,15 +1,13 @@
 // The capacity controller: its record, and the calls on it.
 mod blocks;
 mod check;
-mod masks;
 mod registers;
 mod reset;
-mod setup;
 
 use access::Ack;
 use access::Reading;
 use access::Refusal;
-pub use setup::Setup;
+use masks::Setup;
 
 // The set-up, and the registers as they read.
 pub struct Record {

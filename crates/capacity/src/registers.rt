@@ -2,8 +2,6 @@
 use crate::Acked;
 use crate::Read;
 use crate::Record;
-use crate::masks::mask_of;
-use crate::masks::write_alloc;
 use access::Ack;
 use access::Reading;
 use access::Verdict;
@@ -12,6 +10,8 @@ use access::read_verdict;
 use access::replaced;
 use access::write_verdict;
 use fields::CapacityCapabilities;
+use masks::mask_of;
+use masks::write_alloc;
 use monitor::Registers;
 use monitor::write_mon;
 ghost use mathlib.Core.Path.{_≡_};
@@ -20,7 +20,8 @@ ghost use Rattle.access.specs.Checks.{first};
 ghost use Rattle.capacity_model.specs.Facts.{Ranges};
 ghost use Rattle.capacity_model.specs.Calls.{read, write};
 ghost use Rattle.capacity_model.specs.Model.{capabilities, register, writeAt, step};
-ghost use Rattle.capacity.specs.View.{setupOf, state, outcome, ackOf, readingOf};
+ghost use Rattle.masks.specs.View.{setupOf};
+ghost use Rattle.capacity.specs.View.{state, outcome, ackOf, readingOf};
 
 // The highest EVT_ID that the capacity controller knows.
 const LAST_EVENT: u64 = 1;

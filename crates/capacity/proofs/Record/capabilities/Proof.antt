@@ -1,5 +1,4 @@
 -- `capacity::Record::capabilities` meets its contract.
-use native.Mathlib.Omega.{arith}
 use borrow.Author.Needs.{needs}
 use Rattle.capacity_model.specs.Model.{capabilities}
 use Rattle.capacity.proofs.Record.capabilities.Statement.{statement}

@@ -1,6 +1,5 @@
 -- `capacity::Record::check` meets its contract.
 use mathlib.Core.Path.{sym, ap, _∙_}
-use lib.Dec.{lit<}
 use borrow.Author.Needs.{needs}
 use Rattle.access.specs.Refusals.{verdictOf}
 use Rattle.access.proofs.Refusals.{number-pos}

@@ -1,12 +1,12 @@
 -- `capacity::reset::reset_masks` meets its contract.
 use mathlib.Core.Path.{_≡_, ap, ap₂, _∙_}
-use Prim.Native.Nat.{ℕ, _≤_, _*_}
+use Prim.Native.Nat.{ℕ}
 use native.Mathlib.Omega.{arith}
 use lib.ListN.{length, take, replicate, length-take}
 use borrow.Author.Needs.{needs}
 use Rattle.capacity_model.specs.Rules.{pairs, allBlocks}
-use Rattle.capacity.specs.View.{setupOf}
-use Rattle.capacity.proofs.Words.{first-inside, reset-words}
+use Rattle.masks.specs.View.{setupOf}
+use Rattle.masks.proofs.Words.{first-inside, reset-words}
 use Rattle.capacity.proofs.reset.reset_masks.Statement.{statement}
 use Rattle.capacity.proofs.reset.reset_masks.Tie as tie
 

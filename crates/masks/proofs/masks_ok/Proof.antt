@@ -1,10 +1,10 @@
--- `capacity::masks::masks_ok` meets its contract.
+-- `masks::masks_ok` meets its contract.
 use borrow.Author.Needs.{needs}
 use lib.ListN.{length, getD}
-use Rattle.capacity.specs.View.{setupOf}
-use Rattle.capacity.proofs.Words.{masks-test}
-use Rattle.capacity.proofs.masks.masks_ok.Statement.{statement}
-use Rattle.capacity.proofs.masks.masks_ok.Tie as tie
+use Rattle.masks.specs.View.{setupOf}
+use Rattle.masks.proofs.Words.{masks-test}
+use Rattle.masks.proofs.masks_ok.Statement.{statement}
+use Rattle.masks.proofs.masks_ok.Tie as tie
 
 returns : tie.Need-returns
 returns c =

@@ -1,8 +1,8 @@
--- `capacity::masks::all_blocks` meets its contract.
+-- `masks::all_blocks` meets its contract.
 use borrow.Author.Needs.{needs}
 use Rattle.capacity_model.specs.Rules.{allBlocks}
-use Rattle.capacity.proofs.masks.all_blocks.Statement.{statement}
-use Rattle.capacity.proofs.masks.all_blocks.Tie as tie
+use Rattle.masks.proofs.all_blocks.Statement.{statement}
+use Rattle.masks.proofs.all_blocks.Tie as tie
 
 returns : tie.Need-returns
 unfolding allBlocks

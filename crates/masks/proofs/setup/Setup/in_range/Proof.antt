@@ -1,9 +1,9 @@
--- `capacity::setup::Setup::in_range` meets its contract.
+-- `masks::setup::Setup::in_range` meets its contract.
 use mathlib.Core.Path.{refl}
 use Rattle.tables.specs.Below.{between}
 use Rattle.capacity_model.specs.Rules.{setupOk}
-use Rattle.capacity.proofs.setup.Setup.in_range.Statement.{statement}
-use Rattle.capacity.proofs.setup.Setup.in_range.Tie as tie
+use Rattle.masks.proofs.setup.Setup.in_range.Statement.{statement}
+use Rattle.masks.proofs.setup.Setup.in_range.Tie as tie
 
 returns : tie.Need-returns
 unfolding between setupOk

@@ -1,10 +1,9 @@
--- `capacity::masks::mask_of` meets its contract.
-use mathlib.Core.Path.{_∙_}
+-- `masks::mask_of` meets its contract.
 use lib.Bits.{and-mask}
 use borrow.Author.Needs.{needs}
 use Rattle.capacity_model.specs.Rules.{maskOf, allBlocks}
-use Rattle.capacity.proofs.masks.mask_of.Statement.{statement}
-use Rattle.capacity.proofs.masks.mask_of.Tie as tie
+use Rattle.masks.proofs.mask_of.Statement.{statement}
+use Rattle.masks.proofs.mask_of.Tie as tie
 
 returns : tie.Need-returns
 unfolding maskOf allBlocks

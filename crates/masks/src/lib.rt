@@ -1,10 +1,12 @@
-// Block masks, and the operations of alloc_ctl on them.
-use crate::setup::Setup;
+// The set-up of a capacity controller, its block masks, and the operations of alloc_ctl on them.
+mod setup;
+
 use access::place;
 use allocation::alloc_status;
 use allocation::alloc_word;
 use allocation::held_fields;
 use fields::ones;
+pub use setup::Setup;
 use tables::pick;
 use tables::store64;
 use tables::union64;
@@ -17,7 +19,7 @@ ghost use Rattle.tables.specs.Below.{allBelow};
 ghost use Rattle.capacity_model.specs.Rules.{maskOf, allBlocks, hasBlock};
 ghost use Rattle.capacity_model.specs.Facts.{Ranges};
 ghost use Rattle.capacity_model.specs.Model.{writeAlloc};
-ghost use Rattle.capacity.specs.View.{setupOf, allocation};
+ghost use Rattle.masks.specs.View.{setupOf, allocation};
 
 // Every block.
 pub fn all_blocks(setup: Setup) -> u64

@@ -1,10 +1,10 @@
--- `capacity::setup::Setup::pairs` meets its contract.
+-- `masks::setup::Setup::pairs` meets its contract.
 use mathlib.Core.Path.{refl}
 use native.Mathlib.Nat.{mul-le-mul}
 use native.Mathlib.Omega.{arith}
 use Rattle.capacity_model.specs.Rules.{pairs}
-use Rattle.capacity.proofs.setup.Setup.pairs.Statement.{statement}
-use Rattle.capacity.proofs.setup.Setup.pairs.Tie as tie
+use Rattle.masks.proofs.setup.Setup.pairs.Statement.{statement}
+use Rattle.masks.proofs.setup.Setup.pairs.Tie as tie
 
 mul-result : tie.Need-mul-result
 mul-result c = record { fits = omega (arith, mul-le-mul (c .before .pre .nr-high) (c .before .pre .na-high)) }

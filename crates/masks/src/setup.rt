@@ -3,7 +3,7 @@ ghost use mathlib.Core.Path.{_≡_};
 ghost use Rattle.tables.specs.Below.{Small};
 ghost use Rattle.capacity_model.specs.Rules.{setupOk, pairs};
 ghost use Rattle.capacity_model.specs.Facts.{Ranges};
-ghost use Rattle.capacity.specs.View.{setupOf};
+ghost use Rattle.masks.specs.View.{setupOf};
 
 // NCBLKS, NR, NA, NM and W.
 pub struct Setup {

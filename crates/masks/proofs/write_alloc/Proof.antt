@@ -1,11 +1,11 @@
--- `capacity::masks::write_alloc` meets its contract.
+-- `masks::write_alloc` meets its contract.
 use borrow.Author.Needs.{needs}
 use Rattle.access.specs.Pairs.{wordAt}
 use Rattle.allocation.specs.Allocation.{allocWord, done, tableAfter, operandAfter}
 use Rattle.capacity_model.specs.Rules.{badMask}
 use Rattle.capacity_model.specs.Model.{writeAlloc}
-use Rattle.capacity.proofs.masks.write_alloc.Statement.{statement}
-use Rattle.capacity.proofs.masks.write_alloc.Tie as tie
+use Rattle.masks.proofs.write_alloc.Statement.{statement}
+use Rattle.masks.proofs.write_alloc.Tie as tie
 
 returns : tie.Need-returns
 unfolding writeAlloc allocWord badMask operandAfter tableAfter done wordAt

@@ -1,9 +1,9 @@
--- `capacity::masks::has_block` meets its contract.
+-- `masks::has_block` meets its contract.
 use mathlib.Core.Path.{refl}
 use borrow.Author.Needs.{needs}
 use Rattle.capacity_model.specs.Rules.{hasBlock}
-use Rattle.capacity.proofs.masks.has_block.Statement.{statement}
-use Rattle.capacity.proofs.masks.has_block.Tie as tie
+use Rattle.masks.proofs.has_block.Statement.{statement}
+use Rattle.masks.proofs.has_block.Tie as tie
 
 returns : tie.Need-returns
 unfolding hasBlock
