@@ -1,7 +1,8 @@
 -- Little-endian words of k bytes.
 use mathlib.Core.List.{List, [], _∷_, _++_}
+use mathlib.Core.Path.{_≡_}
 use Prim.Native.Nat.{ℕ, zero, suc, _+_, _*_, _/_, _%_, _<_}
-use lib.ListN.{take, drop}
+use lib.ListN.{length, take, drop}
 
 -- the number that bytes hold, the lowest first
 unfoldable pub wordOf : List ℕ → ℕ
@@ -26,6 +27,15 @@ bytesOfAll k (w ∷ ws) = bytesOf k w ++ bytesOfAll k ws
 -- bs with the k bytes of w at at
 unfoldable pub stored : ℕ → List ℕ → ℕ → ℕ → List ℕ
 stored k bs at w = take at bs ++ bytesOf k w ++ drop (at + k) bs
+
+-- the words of k bytes that a table of bytes holds
+unfoldable pub tableOf : ℕ → List ℕ → List ℕ
+tableOf k bs = wordsOf k (length bs / k) bs
+
+-- bytes and the words of k bytes that they hold, both ways
+pub record Holds (k : ℕ) (bytes words : List ℕ) : Type 0 where
+  pub words-are : words ≡ tableOf k bytes
+  pub bytes-are : bytes ≡ bytesOfAll k words
 
 -- each entry is below m
 abbrev pub Below : ℕ → List ℕ → Type 0

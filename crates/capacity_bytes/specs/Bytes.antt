@@ -1,0 +1,89 @@
+-- The capacity controller as C sees it: numbers, and a record and tables of little-endian bytes.
+use mathlib.Core.Bool.{Bool, cond, _&&_}
+use mathlib.Core.List.{List, [], _∷_}
+use Prim.Native.Nat.{ℕ, _*_}
+use lib.Dec.{eqb}
+use lib.ListN.{length, getD}
+use Rattle.words.specs.Words.{wordsOf, bytesOfAll, tableOf}
+use Rattle.access.specs.Checks.{first}
+use Rattle.replies.specs.Replies as shared
+use Rattle.replies.specs.Replies.{reply, byteChecks}
+use Rattle.capacity_model.specs.Rules.{Setup, setupOk, pairs}
+use Rattle.capacity_model.specs.Calls.{Call, reset, read, write, fill, evict, Answer, refused, done, value, allowed}
+use Rattle.capacity_model.specs.Model.{State, step}
+
+-- ---- what C lends
+
+-- the record and the masks, counters and counter settings, as bytes
+pub record Lent : Type 0 where
+  pub «record» : List ℕ
+  pub masks : List ℕ
+  pub counters : List ℕ
+  pub events : List ℕ
+
+abbrev pub lent : List ℕ → List ℕ → List ℕ → List ℕ → Lent
+lent r masks counters events = record { «record» = r; masks = masks; counters = counters; events = events }
+
+-- the record is 9 words of 8 bytes
+abbrev pub recordLength : ℕ
+recordLength = 72
+
+abbrev pub setupBy : ℕ → ℕ → ℕ → ℕ → ℕ → Setup
+setupBy ncblks nr na nm w = record { ncblks = ncblks; nr = nr; na = na; nm = nm; w = w }
+
+-- the record's words: the set-up, mon_ctl, mon_ctr_val, alloc_ctl and block_mask
+abbrev pub recordOf : State → List ℕ
+recordOf s =
+    s .setup .ncblks ∷ s .setup .nr ∷ s .setup .na ∷ s .setup .nm ∷ s .setup .w ∷ s .monitor .ctl ∷ s .monitor .value ∷ s .alloc .ctl ∷ s .alloc .mask ∷ []
+
+-- the state by the record's words and the tables
+abbrev pub stateBy : List ℕ → List ℕ → List ℕ → List ℕ → State
+stateBy r masks counters events = record {
+  setup = setupBy (getD r 0 0) (getD r 1 0) (getD r 2 0) (getD r 3 0) (getD r 4 0);
+  alloc = record { ctl = getD r 7 0; mask = getD r 8 0; masks = masks };
+  monitor = record { ctl = getD r 5 0; value = getD r 6 0; counters = counters; events = events };
+}
+
+-- the state that lent bytes hold
+unfoldable pub stateOf : Lent → State
+stateOf l = stateBy (wordsOf 8 9 (l .«record»)) (tableOf 8 (l .masks)) (tableOf 8 (l .counters)) (tableOf 2 (l .events))
+
+-- the bytes of a state
+unfoldable pub bytesOf : State → Lent
+bytesOf s = lent (bytesOfAll 8 (recordOf s)) (bytesOfAll 8 (s .alloc .masks)) (bytesOfAll 8 (s .monitor .counters)) (bytesOfAll 2 (s .monitor .events))
+
+-- ---- a call
+
+abbrev pub Reply : Type 0
+Reply = shared.Reply Lent
+
+-- a refusal gives its number and leaves the bytes; 0 for none, with the bytes of the state left; an allowance is 1 or 0
+abbrev pub replyTo : Lent → Answer → State → Reply
+replyTo l (refused n) s = reply n 0 l
+replyTo l done s = reply 0 0 (bytesOf s)
+replyTo l (value v) s = reply 0 v (bytesOf s)
+replyTo l (allowed b) s = reply 0 (cond b 1 0) (bytesOf s)
+
+-- a reset goes by the set-up that it is given, any other call by the record's
+unfoldable pub setupFor : Lent → Call → Setup
+setupFor l (reset su) = su
+setupFor l (read size offset) = stateOf l .setup
+setupFor l (write size offset v) = stateOf l .setup
+setupFor l (fill rcid mcid at block) = stateOf l .setup
+setupFor l (evict rcid mcid at block) = stateOf l .setup
+
+-- each table has exactly the bytes of its words
+unfoldable pub bytesFit : Setup → Lent → Bool
+bytesFit su l = eqb (length (l .masks)) (pairs su * 8) && eqb (length (l .counters)) (su .nm * 8) && eqb (length (l .events)) (su .nm * 2)
+
+-- checks 1 and 2 on bytes
+unfoldable pub byteRefusal : Setup → Lent → ℕ
+byteRefusal su l = first (byteChecks (eqb (length (l .«record»)) recordLength) (setupOk su) (bytesFit su l)) 0
+
+-- the model's step on a state, told to a caller who lent the bytes l
+abbrev pub stepOn : Lent → State → Call → Reply
+stepOn l s c = shared.stepOn step replyTo l s c
+
+-- one call on bytes
+abbrev pub stepBytes : Lent → Call → Reply
+stepBytes l c = shared.stepBytes step replyTo (λ k d. byteRefusal (setupFor k d) k) stateOf l c
