@@ -13,14 +13,24 @@ use Rattle.runs.specs.Runs as runs
 use Rattle.access.specs.Checks.{first, setupChecks, checksOf}
 use Rattle.replies.specs.Replies as replies
 use Rattle.replies.specs.Replies.{reply}
+use Rattle.replies.proofs.Laws as laws
 use Rattle.replies.proofs.Laws.{told}
 use Rattle.capacity_model.specs.Rules.{Setup, setupOk}
 use Rattle.capacity_model.specs.Calls.{Call, reset, read, Answer, refused}
 use Rattle.capacity_model.specs.Model.{State, Outcome, lengthsOk, checks, perform, refusal, step}
 use Rattle.capacity.specs.declared.Record.{Record}
 use Rattle.capacity.specs.View.{state, outcome}
-use Rattle.capacity_bytes.specs.Bytes.{Lent, lent, recordOf, stateBy, stateOf, bytesOf, Reply, replyTo, stepOn}
+use Rattle.capacity_bytes.specs.Bytes.{Lent, lent, recordOf, stateBy, stateOf, bytesOf, Reply, replyTo, setupFor, byteRefusal, stepOn, stepBytes}
 use Rattle.capacity_bytes.specs.View.{wordsIn, Fits, Words}
+
+-- ---- one call on bytes
+
+module _ (l : Lent) (c : Call) where
+  pub step-refused : (n : ℕ) → n ≡ byteRefusal (setupFor l c) l → (n ≡ 0 → ⊥) → reply n 0 l ≡ stepBytes l c
+  step-refused n e h = laws.step-refused step replyTo (λ k d. byteRefusal (setupFor k d) k) stateOf l c n e h
+
+  pub step-taken : (r : Reply) → byteRefusal (setupFor l c) l ≡ 0 → r ≡ stepOn l (stateOf l) c → r ≡ stepBytes l c
+  step-taken r z e = laws.step-taken step replyTo (λ k d. byteRefusal (setupFor k d) k) stateOf l c r z e
 
 -- the bytes of what a call leaves
 pub left : (after : Record) (m n e r M N E : List ℕ) → r ≡ bytesOfAll 8 (wordsIn after) → M ≡ bytesOfAll 8 m → N ≡ bytesOfAll 8 n → E ≡ bytesOfAll 2 e

@@ -28,7 +28,7 @@ same-length-8 : tie.Need-same-length-8
 same-length-8 c = c .before .before .before .before .before .before .before .before .before .before .before .before .before .before .before .before .before .before .before .before .before .before .before .before .before .before .decode-tables .kept .1 .1 .1 .1 .0
 
 returns-2 : tie.Need-returns-2
-returns-2 c = 
+returns-2 c =
     let w = c .before .before .before .before .before .before .before .before .before .before .before .before .before .before .before .before .before .before .before .before .before .before .before .before .before .before .decode-tables .ensures in
     told-done _ _ _ _ _ (c .before .before .before .before .before .before .before .before .before .before .before .before .before .before .before .before .before .before .load-record .ensures) w _ _ _ (c .before .before .before .before .before .before .before .before .before .before .before .before .before .before .fill .ensures) (allowed true) _ _ (ap fillingOf (c .before .before .before .before .before .before .before .before .before .enum-told .given .1)) refl
     (left _ _ _ _ _ _ _ _ (c .before .before .before .before .before .before .before .store-record .ensures) (w .masks .bytes-are) (c .before .before .encode64 .ensures) (w .events .bytes-are))
@@ -37,7 +37,7 @@ same-length-13 : tie.Need-same-length-13
 same-length-13 c = c .before .before .before .before .before .before .before .before .before .before .before .before .before .before .before .before .before .before .before .before .before .before .before .before .before .before .decode-tables .kept .1 .1 .1 .1 .0
 
 returns-3 : tie.Need-returns-3
-returns-3 c = 
+returns-3 c =
     let w = c .before .before .before .before .before .before .before .before .before .before .before .before .before .before .before .before .before .before .before .before .before .before .before .before .before .before .decode-tables .ensures in
     told-done _ _ _ _ _ (c .before .before .before .before .before .before .before .before .before .before .before .before .before .before .before .before .before .before .load-record .ensures) w _ _ _ (c .before .before .before .before .before .before .before .before .before .before .before .before .before .before .fill .ensures) (allowed false) _ _ (ap fillingOf (c .before .before .before .before .before .before .before .before .before .enum-told2 .given .1)) refl
     (left _ _ _ _ _ _ _ _ (c .before .before .before .before .before .before .before .store-record2 .ensures) (w .masks .bytes-are) (c .before .before .encode642 .ensures) (w .events .bytes-are))

@@ -6,7 +6,7 @@ use Rattle.capacity_bytes.proofs.lent.decode_tables.Statement.{statemen
 use Rattle.capacity_bytes.proofs.lent.decode_tables.Tie as tie
 
 returns : tie.Need-returns
-returns c = 
+returns c =
     record {
       masks = held 8 (lit< tt) _ (c .before .before .before .before .before .before .before .before .before .before .before .before .before .before .before .before .before .before .before .args .m .now) _ (c .before .before .before .before .before .before .before .before .before .before .before .before .before .before .before .before .before .before .before .pre .masks-fit) (λ i. c .before .before .before .before .before .before .before .before .before .before .before .before .before .before .before .before .before .shared-slice-known2 .given i .fits) (c .before .before .before .before .before .before .before .before .before .before .decode64 .ensures);
       counters = held 8 (lit< tt) _ (c .before .before .before .before .before .before .before .before .before .before .before .before .before .before .before .before .before .before .before .args .n .now) _ (c .before .before .before .before .before .before .before .before .before .before .before .before .before .before .before .before .before .before .before .pre .counters-fit) (λ i. c .before .before .before .before .before .before .before .before .before .before .before .before .before .before .before .before .shared-slice-known3 .given i .fits) (c .before .before .before .before .before .before .decode642 .ensures);

@@ -11,7 +11,7 @@ returns : tie.Need-returns
 returns c = told-refused _ _ _ _ _ (c .before .before .before .before .before .before .before .before .load-record .ensures) (c .before .before .before .before .before .before .before .before .before .before .before .before .before .before .before .decode-tables .ensures) _ _ _ (c .before .before .before .before .read .ensures) _ _ (ap readingOf (c .before .before .reading .given .1)) (c .refusal-number .ensures)
 
 returns-2 : tie.Need-returns-2
-returns-2 c = 
+returns-2 c =
     let w = c .before .before .before .before .before .before .before .before .before .before .before .before .before .before .decode-tables .ensures in
     told-done _ _ _ _ _ (c .before .before .before .before .before .before .before .load-record .ensures) w _ _ _ (c .before .before .before .read .ensures) (value _) _ _ (ap readingOf (c .before .reading2 .given .1)) refl
     (left _ _ _ _ _ _ _ _ (record-kept _ _ _ _ _ _ _ _ _ (c .before .before .before .before .before .before .before .before .before .before .before .before .before .before .before .before .before .before .before .before .before .before .before .before .before .pre .record-long) (λ i. c .before .before .before .before .before .before .before .before .before .before .before .before .before .before .before .before .before .before .before .before .before .before .before .before .shared-slice-known .given i .fits) (c .before .before .before .before .before .before .before .load-record .ensures) (c .before .before .before .read .ensures))
