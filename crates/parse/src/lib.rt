@@ -27,13 +27,18 @@ pub struct Numbers {
     pub n: [u64; 7],
 }
 
-// Size, offset and value of a write; size and offset of a read; RCID, MCID, AT, kind and bytes of a request.
-pub enum Command {
-    Reset(Setup),
+// A call on a controller that is set up. A write has size, offset and value; a read size and offset; a request RCID, MCID, AT, kind and bytes.
+pub enum Call {
     Write(u64, u64, u64),
     Read(u64, u64),
     Request(u64, u64, u64, u64, u32),
     EndWindow,
+}
+
+// What a line asks for.
+pub enum Command {
+    Reset(Setup),
+    Call(Call),
     Bad,
 }
 
@@ -184,7 +189,7 @@ fn parse_write(line: &[u8]) -> Command
     let r = all_numbers(line, 1, 3);
     if r.ok {
         let n = r.n;
-        Command::Write(n[0], n[1], n[2])
+        Command::Call(Call::Write(n[0], n[1], n[2]))
     } else {
         Command::Bad
     }
@@ -196,7 +201,7 @@ fn parse_read(line: &[u8]) -> Command
     let r = all_numbers(line, 1, 2);
     if r.ok {
         let n = r.n;
-        Command::Read(n[0], n[1])
+        Command::Call(Call::Read(n[0], n[1]))
     } else {
         Command::Bad
     }
@@ -211,7 +216,7 @@ fn request_of(rcid: u64, mcid: u64, at: u64, kind: u64, bytes: u64) -> Command
     if bytes > 4294967295 {
         return Command::Bad;
     }
-    Command::Request(rcid, mcid, at, kind, bytes as u32)
+    Command::Call(Call::Request(rcid, mcid, at, kind, bytes as u32))
 }
 
 fn parse_request(line: &[u8]) -> Command
@@ -231,7 +236,7 @@ fn parse_end(line: &[u8]) -> Command
 {
     let r = all_numbers(line, 0, 0);
     if r.ok {
-        Command::EndWindow
+        Command::Call(Call::EndWindow)
     } else {
         Command::Bad
     }
