@@ -1,0 +1,3 @@
+pub mod Output
+pub mod Stream
+pub mod Claim

@@ -1,0 +1,69 @@
+-- An input that comes in chunks, answered line by line.
+use mathlib.Core.Bool.{cond}
+use mathlib.Core.Path.{_≡_}
+use mathlib.Core.List.{List, [], _∷_, _++_, foldl}
+use Prim.Native.Nat.{ℕ, _≤_}
+use lib.Dec.{eqb}
+use lib.ListN.{length, take}
+use Rattle.print.specs.Print.{Wrote}
+use Rattle.session.specs.Session.{Controller, none}
+use Rattle.session.specs.View.{controllerOf}
+use Rattle.stream.specs.declared.State.{State}
+use Rattle.stream.specs.Output.{endedLines, rest, afterLine, printedFor, afterLines, printed, outputOf}
+
+-- the controller, the first 81 bytes of the line that has not ended, and what was written
+pub record Stream : Type 0 where
+  pub controller : Controller
+  pub held : List ℕ
+  pub written : List ℕ
+
+abbrev pub stream : Controller → List ℕ → List ℕ → Stream
+stream c h w = record { controller = c; held = h; written = w }
+
+-- what a text so far leads to: the answers to its ended lines are written, and the rest is held
+unfoldable pub streamOf : List ℕ → Stream
+streamOf text = stream (afterLines none (endedLines text)) (take 81 (rest text)) (printed none (endedLines text))
+
+-- one byte: a newline ends the line, any other byte joins it; a line over 80 bytes is bad whatever follows
+unfoldable pub byte : Stream → ℕ → Stream
+byte s b =
+    cond (eqb b 10) (stream (afterLine (s .controller) (s .held)) [] (s .written ++ printedFor (s .controller) (s .held)))
+    (stream (s .controller) (take 81 (s .held ++ (b ∷ []))) (s .written))
+
+unfoldable pub feedOf : Stream → List ℕ → Stream
+feedOf s chunk = foldl byte s chunk
+
+-- at the end of input: the line that no newline ended, if there is one
+abbrev pub lastPrinted : Controller → List ℕ → List ℕ
+lastPrinted c [] = []
+lastPrinted c (b ∷ l) = printedFor c (b ∷ l)
+
+-- ---- the promises
+
+-- r bytes of a line's 81 are the ones that len stands for
+pub record Held (len r : ℕ) : Type 0 where
+  pub most : r ≤ 81
+  pub same : (l : List ℕ) → length l ≡ 81 → take r l ≡ take len l
+
+-- the state before an input: no controller, whatever the tables hold, and no byte
+abbrev pub Started : State → Type 0
+Started s = (active configured used counters events : List ℕ) → stream (controllerOf (s .«record») active configured used counters events) (take (s .len) (s .line)) [] ≡ streamOf []
+
+-- one line's answer stands at a position of new
+pub record Answered (c : Controller) (line old : List ℕ) (at : ℕ) (c′ : Controller) (new : List ℕ) (r : ℕ) : Type 0 where
+  pub controller-is : c′ ≡ afterLine c line
+  pub wrote : Wrote 24 old at (printedFor c line) new r
+
+-- out has the first r bytes that a chunk is answered with, and a controller and held bytes follow
+pub record Fed (c : Controller) (held chunk : List ℕ) (c′ : Controller) (held′ out : List ℕ) (r : ℕ) : Type 0 where
+  pub is : stream c′ held′ (take r out) ≡ feedOf (stream c held []) chunk
+  -- whatever text came before, however it was cut: what was written for it and these bytes are the answers to the ended lines of both
+  pub so-far : (text written : List ℕ) → stream c held written ≡ streamOf text → stream c′ held′ (written ++ take r out) ≡ streamOf (text ++ chunk)
+  pub used : r ≤ length out
+
+-- out has the first r bytes that the end of input is answered with
+pub record Finished (c : Controller) (held out : List ℕ) (r : ℕ) : Type 0 where
+  pub is : take r out ≡ lastPrinted c held
+  -- whatever text came before: all that was written is the output of the whole input
+  pub whole : (text written : List ℕ) → stream c held written ≡ streamOf text → written ++ take r out ≡ outputOf text
+  pub used : r ≤ length out

@@ -1,0 +1,177 @@
+// Lines answered as they come in, however the input is cut into chunks.
+use bandwidth::Record;
+use setup::Setup;
+ghost use Prim.Native.Nat.{_+_, _*_, _≤_};
+ghost use lib.ListN.{length, take};
+ghost use Rattle.session.specs.View.{controllerOf, Room};
+ghost use Rattle.stream.specs.Stream.{Held, Started, Answered, Fed, Finished};
+ghost use Rattle.stream.specs.Claim.{Claim};
+
+// The record after a line, and where its answer ends.
+struct Line {
+    record: Record,
+    end: usize,
+}
+
+// The controller's record, and the first bytes, at most 81, of the line that has not ended.
+pub struct State {
+    pub record: Record,
+    pub line: [u8; 81],
+    pub len: usize,
+}
+
+// The state after a chunk, and how many bytes answer it.
+pub struct Progress {
+    pub state: State,
+    pub used: usize,
+}
+
+// Answers one line at `at` of `out`. The room is that of the longest answer, and of the largest tables.
+fn answer(
+    record: Record,
+    active: &mut [u32],
+    configured: &mut [u32],
+    used: &mut [u32],
+    counters: &mut [u64],
+    events: &mut [u16],
+    line: &[u8],
+    out: &mut [u8],
+    at: usize,
+) -> Line
+    requires { ⌜ Room (now active) (now configured) (now used) (now counters) (now events) × (at + 24 ≤ length (now out)) ⌝ }
+    ensures { λ r. ⌜ Answered (controllerOf «record» (now (active .entry)) (now (configured .entry)) (now (used .entry)) (now (counters .entry)) (now (events .entry))) (now (line .entry)) (now (out .entry)) at
+        (controllerOf (r .«record») (now (active .exit)) (now (configured .exit)) (now (used .exit)) (now (counters .exit)) (now (events .exit))) (now (out .exit)) (r .end) ⌝ }
+{
+    let command = parse::parse(line);
+    let turned = session::act(record, active, configured, used, counters, events, command);
+    let reply = turned.reply;
+    let end = print::put_line(reply, out, at);
+    let after = turned.record;
+    Line { record: after, end }
+}
+
+// How many bytes of a line are held.
+fn held(len: usize) -> usize
+    ensures { λ r. ⌜ Held len r ⌝ }
+{
+    if len < 81 { len } else { 81 }
+}
+
+// Before the input.
+pub fn start() -> State
+    ensures { λ r. ⌜ Started r ⌝ }
+{
+    let setup = Setup {
+        nbwblks: 0,
+        mrbwb: 0,
+        nr: 0,
+        na: 0,
+        nm: 0,
+        q: 0,
+        w: 0,
+    };
+    let record = Record {
+        setup,
+        mon_ctl: 0,
+        mon_ctr_val: 0,
+        alloc_ctl: 0,
+        bw_alloc: 0,
+        pool: 0,
+    };
+    State {
+        record,
+        line: [0; 81],
+        len: 0,
+    }
+}
+
+// Answers every line that ends in `chunk`, from the start of `out` on.
+pub fn feed(
+    state: State,
+    active: &mut [u32],
+    configured: &mut [u32],
+    used: &mut [u32],
+    counters: &mut [u64],
+    events: &mut [u16],
+    chunk: &[u8],
+    out: &mut [u8],
+) -> Progress
+    requires { ⌜ Room (now active) (now configured) (now used) (now counters) (now events) × (24 * length (now chunk) ≤ length (now out)) ⌝ }
+    ensures { λ r. ⌜ Fed (controllerOf (state .«record») (now (active .entry)) (now (configured .entry)) (now (used .entry)) (now (counters .entry)) (now (events .entry))) (take (state .len) (state .line)) (now (chunk .entry))
+        (controllerOf (r .state .«record») (now (active .exit)) (now (configured .exit)) (now (used .exit)) (now (counters .exit)) (now (events .exit))) (take (r .state .len) (r .state .line)) (now (out .exit)) (r .used) ⌝ }
+{
+    let mut record = state.record;
+    let mut line = state.line;
+    let mut n = held(state.len);
+    let mut end = 0;
+    let mut i = 0;
+    while i < chunk.len() {
+        let b = chunk[i];
+        i += 1;
+        if b == b'\n' {
+            let r = answer(
+                record,
+                active,
+                configured,
+                used,
+                counters,
+                events,
+                &line[..n],
+                out,
+                end,
+            );
+            record = r.record;
+            end = r.end;
+            n = 0;
+        } else if n < 81 {
+            line[n] = b;
+            n += 1;
+        }
+    }
+    Progress {
+        state: State {
+            record,
+            line,
+            len: n,
+        },
+        used: end,
+    }
+}
+
+// At the end of input: answers the line that no newline ended, if there is one.
+pub fn finish(
+    state: State,
+    active: &mut [u32],
+    configured: &mut [u32],
+    used: &mut [u32],
+    counters: &mut [u64],
+    events: &mut [u16],
+    out: &mut [u8],
+) -> usize
+    requires { ⌜ Room (now active) (now configured) (now used) (now counters) (now events) × (24 ≤ length (now out)) ⌝ }
+    ensures { λ r. ⌜ Finished (controllerOf (state .«record») (now (active .entry)) (now (configured .entry)) (now (used .entry)) (now (counters .entry)) (now (events .entry))) (take (state .len) (state .line)) (now (out .exit)) r ⌝ }
+{
+    let n = held(state.len);
+    if n == 0 {
+        return 0;
+    }
+    let record = state.record;
+    let line = state.line;
+    let r = answer(
+        record,
+        active,
+        configured,
+        used,
+        counters,
+        events,
+        &line[..n],
+        out,
+        0,
+    );
+    r.end
+}
+
+// The claim on whole inputs.
+pub fn cuts_do_not_matter()
+    ensures { λ r. ⌜ Claim ⌝ }
+{}
