@@ -8,6 +8,7 @@ mod forms;
 mod paper;
 mod published;
 mod refusals;
+mod sweep;
 
 /// Who answers the calls of a case.
 #[derive(Clone, Copy, Debug, PartialEq, Eq)]
@@ -16,7 +17,10 @@ pub enum Side {
     Library,
 }
 
-/// Counts expectations and prints those that are not met.
+/// How many unmet expectations are printed on each side.
+const PRINTED: u64 = 20;
+
+/// Counts expectations and prints the first that are not met.
 pub struct Report {
     side: Side,
     expectations: u64,
@@ -32,6 +36,8 @@ impl Report {
         self.expectations += 1;
         if got != expected {
             self.failed += 1;
+        }
+        if got != expected && self.failed <= PRINTED {
             println!("FAILED on the {:?}: {name}: {got:#x}, expected {expected:#x}", self.side);
         }
     }
@@ -46,6 +52,7 @@ fn all(side: Side) -> Report {
     capacity::run(&mut report);
     forms::run(&mut report);
     refusals::run(&mut report);
+    sweep::run(&mut report);
     report
 }
 

@@ -9,6 +9,7 @@ use crate::model::{bandwidth, capacity, Answer};
 use crate::{ffi, image, ledger};
 
 pub trait Controller {
+    type Setup: Copy + Debug;
     type State: Clone + Debug;
     type Call: Clone + Debug;
     type Ledger;
@@ -17,6 +18,7 @@ pub trait Controller {
     /// The lent slices and the bytes of one word in each.
     const REGIONS: &'static [(&'static str, usize)];
 
+    fn setup(state: &Self::State) -> Self::Setup;
     fn bytes(state: &Self::State) -> Vec<Vec<u8>>;
     fn state(contents: &[Vec<u8>]) -> Self::State;
 
@@ -58,6 +60,7 @@ pub trait Controller {
 pub struct Bandwidth;
 
 impl Controller for Bandwidth {
+    type Setup = bandwidth::Setup;
     type State = bandwidth::State;
     type Call = bandwidth::Call;
     type Ledger = ledger::bandwidth::Ledger;
@@ -71,6 +74,10 @@ impl Controller for Bandwidth {
         ("counters", 8),
         ("events", 2),
     ];
+
+    fn setup(state: &bandwidth::State) -> bandwidth::Setup {
+        state.record.setup
+    }
 
     fn bytes(state: &bandwidth::State) -> Vec<Vec<u8>> {
         image::bandwidth_bytes(state)
@@ -145,6 +152,7 @@ impl Controller for Bandwidth {
 pub struct Capacity;
 
 impl Controller for Capacity {
+    type Setup = capacity::Setup;
     type State = capacity::State;
     type Call = capacity::Call;
     type Ledger = ledger::capacity::Ledger;
@@ -152,6 +160,10 @@ impl Controller for Capacity {
     const NAME: &'static str = "capacity";
     const REGIONS: &'static [(&'static str, usize)] =
         &[("record", 8), ("masks", 8), ("counters", 8), ("events", 2)];
+
+    fn setup(state: &capacity::State) -> capacity::Setup {
+        state.record.setup
+    }
 
     fn bytes(state: &capacity::State) -> Vec<Vec<u8>> {
         image::capacity_bytes(state)

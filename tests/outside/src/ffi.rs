@@ -105,7 +105,7 @@ pub fn bandwidth(memory: &mut Memory, call: &bandwidth::Call) -> Answer {
     use bandwidth::Call;
     let [r, a, c, u, n, e] = memory.slices::<6>();
     let mut value = UNWRITTEN;
-    // SAFETY: the slices are disjoint, alive and as long as said; `value` is a variable of this function.
+    // SAFETY: the slices are disjoint, alive and as long as said; `value` lives until the end.
     let refusal = unsafe {
         match *call {
             Call::Reset(s) => {

@@ -44,10 +44,11 @@ fn main() -> ExitCode {
     ExitCode::from(!passed as u8)
 }
 
-/// The number after an option, if it is given.
+/// The number after an option, if the option is given.
 fn number(arguments: &[String], option: &str) -> Option<u64> {
     let place = arguments.iter().position(|argument| argument == option)?;
-    arguments.get(place + 1)?.parse().ok()
+    let text = arguments.get(place + 1).map_or("", String::as_str);
+    Some(text.parse().unwrap_or_else(|_| panic!("{option} needs a number, not '{text}'")))
 }
 
 fn run_both(seed: u64, calls: u64) -> bool {

@@ -10,6 +10,7 @@ use crate::session::{hexadecimal, Session};
 /// The first difference of a list: the steps up to it, and what differed.
 pub struct Failure<C: Controller> {
     pub seed: u64,
+    pub setup: C::Setup,
     pub steps: Vec<Step<C::Call>>,
     pub text: String,
 }
@@ -48,7 +49,8 @@ fn run_list<C: Controller>(seed: u64, coverage: &mut Coverage) -> Result<(), Fai
         let outcome = session.take(&step, coverage);
         steps.push(step);
         if let Err(text) = outcome {
-            return Err(Failure { seed, steps, text });
+            let setup = C::setup(session.state());
+            return Err(Failure { seed, setup, steps, text });
         }
     }
     coverage.lists += 1;
@@ -77,7 +79,9 @@ fn replay<C: Controller>(steps: &[Step<C::Call>]) -> Option<String> {
 impl<C: Controller> Failure<C> {
     /// Prints the seed, the place in its list, and a shorter list that differs too.
     pub fn print(&self) {
-        println!("{}: list of seed {:#x} differs at step {}", C::NAME, self.seed, self.steps.len());
+        let (name, index) = (C::NAME, self.steps.len() - 1);
+        println!("{name}: the list of seed {:#x} differs at step {index}", self.seed);
+        println!("  {:?}", self.setup);
         println!("  {}", self.text);
         let steps = self.shortened();
         println!("the shortest list found, of {} steps:", steps.len());

@@ -103,16 +103,28 @@ impl<'a, C: Controller> Case<'a, C> {
         self.read(name, 8, OPERAND, value);
     }
 
-    /// A word of the record or of a table.
+    /// A call's refusal, whatever else it does.
+    pub fn refusal(&mut self, name: &str, call: &C::Call, number: u64) {
+        let answer = self.call(call);
+        self.report.expect(name, answer.refusal, number);
+    }
+
+    /// A word of the record or of a table, and what it must be.
     pub fn word(&mut self, name: &str, region: usize, index: usize, expected: u64) {
+        let word = self.load(region, index);
+        self.report.expect(name, word, expected);
+    }
+
+    /// Reads a word of the memory, as its owner may.
+    pub fn load(&self, region: usize, index: usize) -> u64 {
         let width = C::REGIONS[region].1;
         let mut bytes = [0; 8];
         let part = &self.memory.region(region)[width * index..width * (index + 1)];
         bytes[..width].copy_from_slice(part);
-        self.report.expect(name, u64::from_le_bytes(bytes), expected);
+        u64::from_le_bytes(bytes)
     }
 
-    /// Writes such a word, as the owner of the memory may.
+    /// Writes a word of the memory, as its owner may.
     pub fn store(&mut self, region: usize, index: usize, value: u64) {
         let width = C::REGIONS[region].1;
         let part = &mut self.memory.region_mut(region)[width * index..width * (index + 1)];

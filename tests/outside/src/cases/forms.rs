@@ -21,8 +21,9 @@ const USED: usize = 3;
 const COUNTERS: usize = 4;
 const EVENTS: usize = 5;
 
-// In force, after P1 to P7 and a window end: RCID 0: 30 blocks, AT 1 shares AT 0; RCID 1: 30 blocks, weight 5,
-// AT 1 shares AT 0; RCID 2: 20 blocks; all else unset. MRBWB 80 is reserved, the pool has 1,280 bytes.
+// Configured and in force, as after P1 to P7: RCID 0 has 30 blocks, and its AT 1 shares AT 0;
+// RCID 1 has 30 blocks with weight 5, and its AT 1 shares AT 0; RCID 2 has 20 blocks; all else is unset.
+// All of MRBWB, 80 blocks, is reserved, and the pool has 1,280 bytes.
 const RECORD_FORMS: [Form; 13] = [
     ("STATUS 127 of mon_ctl", RECORD, 7, 0x7F_0000_0000, 0),
     ("every field of mon_ctl", RECORD, 7, 0x7F_1FFF_FFFF, 0),

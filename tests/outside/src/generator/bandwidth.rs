@@ -96,19 +96,19 @@ fn read(size: u64, offset: u64) -> Step<Call> {
 
 /// Any call, with arguments of every kind.
 fn any_call(random: &mut Random, setup: &Setup) -> Call {
-    let (size, offset, value) = match random.below(6) {
-        0 => {
+    let (size, offset, value) = match random.below(12) {
+        0 | 1 => {
             let (size, offset) = common::access(random);
             return Call::Read { size, offset };
         }
-        1 => {
+        2 | 3 => {
             let bytes = random.number() as u32;
             return Call::Request(any_request(random, setup, bytes));
         }
-        2 if random.percent(20) => return Call::EndWindow,
-        2 if random.percent(20) => return Call::Reset(bandwidth_outside(random)),
-        2 | 3 => common::any_write(random),
-        4 => common::any_alloc_ctl(random, setup.nr, setup.na),
+        4 => return Call::EndWindow,
+        5 if random.percent(40) => return Call::Reset(bandwidth_outside(random)),
+        5..=7 => common::any_write(random),
+        8 | 9 => common::any_alloc_ctl(random, setup.nr, setup.na),
         _ => common::any_mon_ctl(random, setup.na, setup.nm, LAST_EVENT),
     };
     Call::Write { size, offset, value }

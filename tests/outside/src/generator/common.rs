@@ -13,9 +13,9 @@ pub fn access(random: &mut Random) -> (u64, u64) {
     let size = random.pick(&[4, 8]);
     match random.below(20) {
         0 => (random.pick(&[0, 1, 2, 3, 5, 6, 7, 9, 12, 16]), random.below(50)),
-        1 => (random.pick(&[0, 40, 1 << 32, (1 << 32) + 4, (1 << 32) + 8, u64::MAX]), 0),
+        1 => (size | 1 << random.below(64), 8 * random.below(5)),
         2 | 3 => (size, random.below(50)),
-        4 => (size, random.pick(&[36, 40, 44, 48, 64, 1 << 32, (1 << 32) + 24, 1 << 63])),
+        4 => (size, (8 * random.below(5)) | (1 << random.below(64))),
         5 => (size, u64::MAX - random.below(17)),
         6..=12 => (4, 4 * random.below(10)),
         _ => (8, 8 * random.below(5)),
@@ -26,8 +26,11 @@ pub fn access(random: &mut Random) -> (u64, u64) {
 pub fn any_write(random: &mut Random) -> Write {
     let (size, offset) = access(random);
     let value = if random.percent(50) { random.number() } else { random.next() };
-    let fits = size == 4 && random.percent(85);
-    (size, offset, if fits { value & 0xFFFF_FFFF } else { value })
+    if size != 4 {
+        return (size, offset, value);
+    }
+    let excess = if random.percent(15) { 1 << random.between(32, 63) } else { 0 };
+    (size, offset, value & 0xFFFF_FFFF | excess)
 }
 
 /// A write of a control register that performs an operation: whole, or the low half.

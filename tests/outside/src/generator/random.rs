@@ -48,22 +48,36 @@ impl Random {
         }
     }
 
-    /// Mostly a number below `count`; at times the first or any one that is not.
+    /// Mostly a number below `count`; at times the first that is not, any one,
+    /// or one that falls below `count` where its high bits are lost.
     pub fn index(&mut self, count: u64) -> u64 {
-        match self.below(40) {
+        match self.below(60) {
             0 => count,
             1 => self.number(),
-            2..=5 => count - 1,
+            2 => self.below(count) | 1 << self.below(64),
+            3..=7 => count - 1,
             _ => self.below(count),
         }
+    }
+
+    /// A place in a table: its ends and those next to a power of two more often.
+    pub fn place(&mut self, count: u64) -> usize {
+        let place = match self.below(4) {
+            0 => 0,
+            1 => count - 1,
+            2 => (self.below(8) << self.below(9)) + self.below(2),
+            _ => self.below(count),
+        };
+        place.min(count - 1) as usize
     }
 
     /// A value for a field of `width` bits: mostly below `count`, at times not.
     pub fn field_index(&mut self, count: u64, width: u32) -> u64 {
         let highest = (1 << width) - 1;
-        match self.below(10) {
+        match self.below(20) {
             0 => count & highest,
             1 => self.next() & highest,
+            2 => self.below(count) | 1 << self.below(width as u64),
             _ => self.below(count),
         }
     }

@@ -21,10 +21,11 @@ fn sizes(random: &mut Random) -> Sizes {
     match random.below(100) {
         // the largest tables cost the most time
         0 => Sizes { nr: 256, na: 8, nm: 256, w },
-        1 => Sizes { nr: 256, na: random.between(1, 2), nm: random.between(1, 4), w },
-        2 => Sizes { nr: random.between(100, 255), na: 1, nm: 256, w },
-        3..=6 => Sizes { nr: 1, na: 1, nm: 1, w },
-        7..=16 => Sizes { nr: random.between(1, 3), na: 8, nm: random.between(1, 3), w },
+        1 => Sizes { nr: 256, na: random.between(1, 8), nm: random.between(1, 4), w },
+        2 => Sizes { nr: random.between(100, 255), na: 1, nm: random.between(100, 256), w },
+        3..=6 => Sizes { nr: random.between(7, 100), na: random.between(1, 8), nm: 5, w },
+        7 | 8 => Sizes { nr: 1, na: 1, nm: 1, w },
+        9..=16 => Sizes { nr: random.between(1, 3), na: 8, nm: random.between(1, 3), w },
         17..=36 => Sizes { nr: random.between(1, 5), na: 1, nm: random.between(1, 4), w },
         _ => Sizes {
             nr: random.between(1, 6),

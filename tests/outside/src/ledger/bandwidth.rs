@@ -191,3 +191,114 @@ impl Ledger {
         Ok(())
     }
 }
+
+#[cfg(test)]
+mod tests {
+    use super::*;
+    use crate::model::bandwidth::{perform, table_lengths, RECORD_LENGTH};
+
+    const SETUP: Setup = Setup { nbwblks: 100, mrbwb: 80, nr: 4, na: 2, nm: 4, q: 64, w: 24 };
+
+    fn write(offset: u64, value: u64) -> Call {
+        Call::Write { size: 8, offset, value }
+    }
+
+    fn request(rcid: u64, bytes: u32) -> Call {
+        Call::Request(Request { rcid, mcid: 0, at: 0, kind: 0, bytes })
+    }
+
+    /// RCID 0 to 30 blocks with weight 1, RCID 1 to 20 with weight 0, in force; counter 0 counts all.
+    fn in_use() -> (State, Ledger) {
+        let (mut state, mut ledger) = (State::default(), Ledger::after_reset(&SETUP));
+        let calls = [
+            Call::Reset(SETUP),
+            write(32, 0x0010_001E),
+            write(24, 0x001),
+            write(32, 20),
+            write(24, 0x101),
+            write(8, 0x10_0001),
+            Call::EndWindow,
+        ];
+        for call in calls {
+            make(&mut state, &mut ledger, &call).unwrap();
+        }
+        (state, ledger)
+    }
+
+    fn lengths() -> Vec<usize> {
+        [RECORD_LENGTH].into_iter().chain(table_lengths(&SETUP)).collect()
+    }
+
+    fn make(state: &mut State, ledger: &mut Ledger, call: &Call) -> Result<(), String> {
+        let answer = perform(state, &lengths(), call);
+        ledger.observe(call, answer)?;
+        ledger.check(state)
+    }
+
+    /// What the claims say of a request that was granted these bytes, the state untouched.
+    fn claims_after(rcid: u64, asked: u32, granted: u64) -> Result<(), String> {
+        let (_, mut ledger) = in_use();
+        ledger.observe(&request(rcid, asked), Answer::value(granted))?;
+        ledger.check_window()
+    }
+
+    #[test]
+    fn grants_between_the_bounds() {
+        assert!(claims_after(0, 2_000, 1_919).is_err(), "less than the reservation");
+        assert!(claims_after(0, 2_000, 1_920).is_ok());
+        assert!(claims_after(0, 2_000, 2_000).is_ok());
+        assert!(claims_after(0, 2_000, 2_001).is_err(), "more than asked");
+        assert!(claims_after(0, 9_000, 5_120).is_ok(), "reservation and pool");
+        assert!(claims_after(0, 9_000, 5_121).is_err(), "others' reservation");
+        assert!(claims_after(0, 100, 0).is_err(), "nothing at all");
+    }
+
+    #[test]
+    fn weight_0_is_a_hard_limit() {
+        assert!(claims_after(1, 2_000, 1_280).is_ok());
+        assert!(claims_after(1, 2_000, 1_281).is_err());
+        assert!(claims_after(1, 2_000, 1_279).is_err());
+    }
+
+    #[test]
+    fn all_grants_fit_into_the_blocks() {
+        // an unset pair has no holder, but what it is given counts in the window's sum
+        assert!(claims_after(3, 6_400, 6_400).is_ok());
+        assert!(claims_after(3, 6_401, 6_401).is_err());
+    }
+
+    #[test]
+    fn settings_must_come_into_force_at_every_window_end() {
+        let (mut state, mut ledger) = in_use();
+        make(&mut state, &mut ledger, &write(32, 10)).unwrap();
+        make(&mut state, &mut ledger, &write(24, 0x101)).unwrap();
+        ledger.observe(&Call::EndWindow, Answer::value(0)).unwrap();
+        assert!(ledger.check(&state).is_err(), "the state has seen no window end");
+        perform(&mut state, &lengths(), &Call::EndWindow);
+        assert!(ledger.check(&state).is_ok());
+    }
+
+    #[test]
+    fn an_accepted_setting_must_stay() {
+        let (mut state, ledger) = in_use();
+        state.configured[2] = 19;
+        assert!(ledger.check(&state).is_err());
+    }
+
+    #[test]
+    fn reads_of_bw_alloc() {
+        let (_, mut ledger) = in_use();
+        let read = Call::Read { size: 8, offset: 32 };
+        assert!(ledger.observe(&read, Answer::value(20)).is_ok());
+        assert!(ledger.observe(&read, Answer::value(21)).is_err());
+    }
+
+    #[test]
+    fn counters_are_tied_to_grants() {
+        let (mut state, mut ledger) = in_use();
+        make(&mut state, &mut ledger, &request(0, 300)).unwrap();
+        assert_eq!(state.counters[0], 300);
+        state.counters[0] = 301;
+        assert!(ledger.check(&state).is_err());
+    }
+}

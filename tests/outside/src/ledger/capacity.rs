@@ -154,3 +154,83 @@ impl Ledger {
         Ok(())
     }
 }
+
+#[cfg(test)]
+mod tests {
+    use super::*;
+    use crate::model::capacity::{perform, table_lengths, RECORD_LENGTH};
+
+    const SETUP: Setup = Setup { ncblks: 8, nr: 4, na: 2, nm: 4, w: 24 };
+
+    fn event(rcid: u64, block: u64) -> Event {
+        Event { rcid, mcid: 0, at: 0, block }
+    }
+
+    /// RCID 1 has block 3; counter 0 counts occupancy and has seen one fill.
+    fn in_use() -> (State, Ledger) {
+        let (mut state, mut ledger) = (State::default(), Ledger::after_reset(&SETUP));
+        let calls = [
+            Call::Reset(SETUP),
+            Call::Write { size: 8, offset: 32, value: 0b1000 },
+            Call::Write { size: 8, offset: 24, value: 0x101 },
+            Call::Write { size: 8, offset: 8, value: 0x10_0001 },
+            Call::Fill(event(1, 3)),
+        ];
+        for call in calls {
+            make(&mut state, &mut ledger, &call).unwrap();
+        }
+        (state, ledger)
+    }
+
+    fn make(state: &mut State, ledger: &mut Ledger, call: &Call) -> Result<(), String> {
+        let mut lengths = vec![RECORD_LENGTH];
+        lengths.extend(table_lengths(&SETUP));
+        let answer = perform(state, &lengths, call);
+        ledger.observe(call, answer)?;
+        ledger.check(state)
+    }
+
+    #[test]
+    fn fills_go_by_the_ledgers_masks() {
+        let (_, mut ledger) = in_use();
+        assert!(ledger.observe(&Call::Fill(event(1, 2)), Answer::value(1)).is_err());
+        assert!(ledger.observe(&Call::Fill(event(1, 3)), Answer::value(0)).is_err());
+        assert!(ledger.observe(&Call::Fill(event(1, 2)), Answer::value(0)).is_ok());
+    }
+
+    #[test]
+    fn reads_of_block_mask() {
+        let (_, mut ledger) = in_use();
+        let read = Call::Read { size: 4, offset: 32 };
+        assert!(ledger.observe(&read, Answer::value(0b1000)).is_ok());
+        assert!(ledger.observe(&read, Answer::value(0b1001)).is_err());
+    }
+
+    #[test]
+    fn counters_are_fills_less_evictions() {
+        let (mut state, ledger) = in_use();
+        for word in [0, 2, INVALID.mask() | 1] {
+            state.counters[0] = word;
+            assert!(ledger.check(&state).is_err(), "{word:#x}");
+        }
+        state.counters[0] = 1;
+        assert!(ledger.check(&state).is_ok());
+    }
+
+    #[test]
+    fn an_eviction_at_0_must_show() {
+        let (mut state, mut ledger) = in_use();
+        make(&mut state, &mut ledger, &Call::Evict(event(0, 0))).unwrap();
+        make(&mut state, &mut ledger, &Call::Evict(event(0, 0))).unwrap();
+        assert_eq!(state.counters[0], INVALID.mask());
+        state.counters[0] = 0;
+        assert!(ledger.check(&state).is_err());
+    }
+
+    #[test]
+    fn masks_are_the_ledgers() {
+        let (mut state, ledger) = in_use();
+        state.masks[2] = 0b1001;
+        assert!(ledger.check(&state).is_err());
+    }
+}

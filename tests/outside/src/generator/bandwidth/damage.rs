@@ -78,7 +78,7 @@ fn setting(random: &mut Random, state: &State) -> Change {
     let setup = &state.record.setup;
     let table = random.between(1, 2) as usize;
     let words = if table == 1 { &state.active } else { &state.configured };
-    let place = random.below(setup.pairs() as u64) as usize;
+    let place = random.place(setup.pairs() as u64);
     let free = setup.mrbwb - (all_reserved(words) - reserved(words[place]));
     let value = match random.below(9) {
         0 => 0,
@@ -97,7 +97,7 @@ fn setting(random: &mut Random, state: &State) -> Change {
 /// A word of the used table: all of a reservation, one more, or one byte where nothing is reserved.
 fn used(random: &mut Random, state: &State) -> Change {
     let setup = &state.record.setup;
-    let place = random.below(setup.pairs() as u64) as usize;
+    let place = random.place(setup.pairs() as u64);
     let limit = reserved(state.active[place]) * setup.q;
     let value = random.pick(&[0, 1, limit, limit + 1, limit + setup.q, 0xFFFF_FFFF]);
     Change::word(USED, 4, place, value & 0xFFFF_FFFF)
@@ -107,7 +107,7 @@ fn counter(random: &mut Random, setup: &Setup) -> Change {
     let limit = 1u64 << setup.w;
     let value = random.pick(&[0, limit - 1, limit, limit + 1, 1 << 61]);
     let flags = random.below(4) << 62;
-    Change::word(COUNTERS, 8, random.below(setup.nm) as usize, value | flags)
+    Change::word(COUNTERS, 8, random.place(setup.nm), value | flags)
 }
 
 /// A counter setting: events 0 to 4, any AT, ATV, or a bit beyond these.
@@ -117,5 +117,5 @@ fn event(random: &mut Random, setup: &Setup) -> Change {
         1 => random.next() & 0xFFFF,
         _ => random.below(5) | random.below(setup.na + 1) << 8 | random.below(2) << 11,
     };
-    Change::word(EVENTS, 2, random.below(setup.nm) as usize, value)
+    Change::word(EVENTS, 2, random.place(setup.nm), value)
 }

@@ -75,14 +75,14 @@ fn mask(random: &mut Random, setup: &Setup) -> Change {
         3 => random.next() & blocks,
         _ => 1 << random.below(64),
     };
-    Change::word(MASKS, 8, random.below(setup.pairs() as u64) as usize, value)
+    Change::word(MASKS, 8, random.place(setup.pairs() as u64), value)
 }
 
 fn counter(random: &mut Random, setup: &Setup) -> Change {
     let limit = 1u64 << setup.w;
     let value = random.pick(&[0, limit - 1, limit, limit + 1, 1 << 61, 1 << 62]);
     let flag = random.below(2) << 63;
-    Change::word(COUNTERS, 8, random.below(setup.nm) as usize, value | flag)
+    Change::word(COUNTERS, 8, random.place(setup.nm), value | flag)
 }
 
 /// A counter setting: events 0 to 2, any AT, ATV, or a bit beyond these.
@@ -92,5 +92,5 @@ fn event(random: &mut Random, setup: &Setup) -> Change {
         1 => random.next() & 0xFFFF,
         _ => random.below(3) | random.below(setup.na + 1) << 8 | random.below(2) << 11,
     };
-    Change::word(EVENTS, 2, random.below(setup.nm) as usize, value)
+    Change::word(EVENTS, 2, random.place(setup.nm), value)
 }
