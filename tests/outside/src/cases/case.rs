@@ -1,0 +1,208 @@
+//! One case: a controller with lent memory, and calls with what they must give.
+
+use super::{Report, Side};
+use crate::controller::{Bandwidth, Capacity, Controller};
+use crate::memory::Memory;
+use crate::model::access::{ALLOC_CTL, MON_CTL, OPERAND};
+use crate::model::registers::{CONFIG_LIMIT, READ_LIMIT, STATUS};
+use crate::model::{bandwidth, capacity, Answer};
+
+pub struct Case<'a, C: Controller> {
+    report: &'a mut Report,
+    memory: Memory,
+    marker: std::marker::PhantomData<C>,
+}
+
+pub type BandwidthCase<'a> = Case<'a, Bandwidth>;
+pub type CapacityCase<'a> = Case<'a, Capacity>;
+
+/// What lent memory holds before the first reset.
+const OLD_BYTE: u8 = 0xA5;
+
+impl<'a, C: Controller> Case<'a, C> {
+    /// A case on memory of these lengths.
+    pub fn new(report: &'a mut Report, lengths: &[usize]) -> Case<'a, C> {
+        let contents: Vec<Vec<u8>> = lengths.iter().map(|&n| vec![OLD_BYTE; n]).collect();
+        Case { report, memory: Memory::new(&contents, 1), marker: std::marker::PhantomData }
+    }
+
+    pub fn call(&mut self, call: &C::Call) -> Answer {
+        if self.report.side == Side::Library {
+            return C::on_library(&mut self.memory, call);
+        }
+        let mut state = C::state(&self.memory.contents());
+        let answer = C::on_model(&mut state, &self.memory.lengths(), call);
+        if answer.refusal == 0 {
+            self.memory = Memory::new(&C::bytes(&state), 1);
+        }
+        answer
+    }
+
+    /// An accepted call, and the value that it hands back.
+    pub fn answers(&mut self, name: &str, call: &C::Call, value: u64) {
+        let answer = self.call(call);
+        self.report.expect(&format!("{name}, refusal"), answer.refusal, 0);
+        self.report.expect(name, answer.value, value);
+    }
+
+    /// A refused call: its number, value 0, and no byte changed.
+    pub fn refuses(&mut self, name: &str, call: &C::Call, number: u64) {
+        let before = self.memory.clone();
+        let answer = self.call(call);
+        self.report.expect(name, answer.refusal, number);
+        self.report.expect(&format!("{name}, value"), answer.value, 0);
+        self.report.expect(&format!("{name}, unchanged"), (self.memory == before) as u64, 1);
+    }
+
+    pub fn read(&mut self, name: &str, size: u64, offset: u64, value: u64) {
+        self.answers(name, &C::read_call(size, offset), value);
+    }
+
+    pub fn write(&mut self, size: u64, offset: u64, value: u64) {
+        self.answers("write", &C::write_call(size, offset, value), 0);
+    }
+
+    /// A write that changes these words of the record and nothing else, each to the value given.
+    pub fn write_changes(&mut self, name: &str, write: [u64; 3], changes: &[(usize, u64)]) {
+        let mut expected = self.memory.clone();
+        for &(word, value) in changes {
+            expected.region_mut(0)[8 * word..8 * word + 8].copy_from_slice(&value.to_le_bytes());
+        }
+        let [size, offset, value] = write;
+        self.answers(name, &C::write_call(size, offset, value), 0);
+        let same = self.memory.contents() == expected.contents();
+        self.report.expect(&format!("{name}, all else unchanged"), same as u64, 1);
+    }
+
+    /// Writes alloc_ctl and expects its STATUS.
+    pub fn alloc(&mut self, name: &str, value: u64, status: u64) {
+        self.write(8, ALLOC_CTL, value);
+        self.status(name, ALLOC_CTL, status);
+    }
+
+    /// Writes mon_ctl and expects its STATUS.
+    pub fn mon(&mut self, name: &str, value: u64, status: u64) {
+        self.write(8, MON_CTL, value);
+        self.status(name, MON_CTL, status);
+    }
+
+    fn status(&mut self, name: &str, offset: u64, status: u64) {
+        let answer = self.call(&C::read_call(8, offset));
+        self.report.expect(name, STATUS.get(answer.value), status);
+    }
+
+    /// Writes an operand and CONFIG_LIMIT for a pair, and expects its STATUS.
+    pub fn configure(&mut self, name: &str, pair: (u64, u64), operand: u64, status: u64) {
+        self.write(8, OPERAND, operand);
+        self.alloc(name, pair.0 << 8 | pair.1 << 5 | CONFIG_LIMIT, status);
+    }
+
+    /// READ_LIMIT of a pair, which always ends in 1, and the operand register after it.
+    pub fn read_limit(&mut self, name: &str, pair: (u64, u64), value: u64) {
+        self.alloc(name, pair.0 << 8 | pair.1 << 5 | READ_LIMIT, 1);
+        self.read(name, 8, OPERAND, value);
+    }
+
+    /// A call's refusal, whatever else it does.
+    pub fn refusal(&mut self, name: &str, call: &C::Call, number: u64) {
+        let answer = self.call(call);
+        self.report.expect(name, answer.refusal, number);
+    }
+
+    /// A word of the record or of a table, and what it must be.
+    pub fn word(&mut self, name: &str, region: usize, index: usize, expected: u64) {
+        let word = self.load(region, index);
+        self.report.expect(name, word, expected);
+    }
+
+    /// Reads a word of the memory, as its owner may.
+    pub fn load(&self, region: usize, index: usize) -> u64 {
+        let width = C::REGIONS[region].1;
+        let mut bytes = [0; 8];
+        let part = &self.memory.region(region)[width * index..width * (index + 1)];
+        bytes[..width].copy_from_slice(part);
+        u64::from_le_bytes(bytes)
+    }
+
+    /// Writes a word of the memory, as its owner may.
+    pub fn store(&mut self, region: usize, index: usize, value: u64) {
+        let width = C::REGIONS[region].1;
+        let part = &mut self.memory.region_mut(region)[width * index..width * (index + 1)];
+        part.copy_from_slice(&value.to_le_bytes()[..width]);
+    }
+
+    /// Runs a part of the case, then puts the memory back as it was.
+    pub fn aside(&mut self, part: impl FnOnce(&mut Self)) {
+        let kept = self.memory.clone();
+        part(self);
+        self.memory = kept;
+    }
+
+    /// Lends a slice with another length from here on.
+    pub fn lend_length(&mut self, region: usize, length: usize) {
+        self.memory = self.memory.with_length(region, length);
+    }
+
+    pub fn lengths(&self) -> Vec<usize> {
+        self.memory.lengths()
+    }
+}
+
+impl<'a> Case<'a, Bandwidth> {
+    /// NBWBLKS, MRBWB, NR, NA, NM, Q, W, as in the paper's line `s`; the memory fits and is reset.
+    pub fn after_reset(report: &'a mut Report, numbers: [u64; 7]) -> BandwidthCase<'a> {
+        let setup = bandwidth_setup(numbers);
+        let mut lengths = vec![bandwidth::RECORD_LENGTH];
+        lengths.extend(bandwidth::table_lengths(&setup));
+        let mut case = Case::new(report, &lengths);
+        case.answers("reset", &bandwidth::Call::Reset(setup), 0);
+        case
+    }
+
+    /// RCID, MCID, AT, kind and bytes, as in the paper's line `q`.
+    pub fn request(&mut self, name: &str, arguments: [u64; 5], granted: u64) {
+        let [rcid, mcid, at, kind, bytes] = arguments;
+        let bytes = bytes as u32;
+        let request = bandwidth::Request { rcid, mcid, at, kind, bytes };
+        self.answers(name, &bandwidth::Call::Request(request), granted);
+    }
+
+    pub fn end_window(&mut self) {
+        self.answers("end of a window", &bandwidth::Call::EndWindow, 0);
+    }
+}
+
+pub fn bandwidth_setup(numbers: [u64; 7]) -> bandwidth::Setup {
+    let [nbwblks, mrbwb, nr, na, nm, q, w] = numbers;
+    bandwidth::Setup { nbwblks, mrbwb, nr, na, nm, q, w }
+}
+
+impl<'a> Case<'a, Capacity> {
+    /// NCBLKS, NR, NA, NM, W; the memory fits and is reset.
+    pub fn after_reset(report: &'a mut Report, numbers: [u64; 5]) -> CapacityCase<'a> {
+        let setup = capacity_setup(numbers);
+        let mut lengths = vec![capacity::RECORD_LENGTH];
+        lengths.extend(capacity::table_lengths(&setup));
+        let mut case = Case::new(report, &lengths);
+        case.answers("reset", &capacity::Call::Reset(setup), 0);
+        case
+    }
+
+    /// A fill by RCID, MCID, AT and block; 1 is allowed.
+    pub fn fill(&mut self, name: &str, event: [u64; 4], allowed: u64) {
+        self.answers(name, &capacity::Call::Fill(cache_event(event)), allowed);
+    }
+
+    pub fn evict(&mut self, event: [u64; 4]) {
+        self.answers("eviction", &capacity::Call::Evict(cache_event(event)), 0);
+    }
+}
+
+pub fn capacity_setup(numbers: [u64; 5]) -> capacity::Setup {
+    let [ncblks, nr, na, nm, w] = numbers;
+    capacity::Setup { ncblks, nr, na, nm, w }
+}
+
+pub fn cache_event([rcid, mcid, at, block]: [u64; 4]) -> capacity::Event {
+    capacity::Event { rcid, mcid, at, block }
+}

@@ -1,0 +1,180 @@
+//! Refusal 3: one word of a good state is changed, and the state is well formed or not.
+
+use super::case::{BandwidthCase, CapacityCase};
+use super::Report;
+use crate::model::{bandwidth, capacity};
+
+pub fn run(report: &mut Report) {
+    bandwidth_forms(report);
+    bandwidth_one_type(report);
+    capacity_forms(report);
+}
+
+/// Slice, index, value, and the refusal that the next call gives.
+type Form = (&'static str, usize, usize, u64, u64);
+
+// slices of the bandwidth controller
+const RECORD: usize = 0;
+const ACTIVE: usize = 1;
+const CONFIGURED: usize = 2;
+const USED: usize = 3;
+const COUNTERS: usize = 4;
+const EVENTS: usize = 5;
+
+// Configured and in force, as after P1 to P7: RCID 0 has 30 blocks, and its AT 1 shares AT 0;
+// RCID 1 has 30 blocks with weight 5, and its AT 1 shares AT 0; RCID 2 has 20 blocks; all else is unset.
+// All of MRBWB, 80 blocks, is reserved, and the pool has 1,280 bytes.
+const RECORD_FORMS: [Form; 13] = [
+    ("STATUS 127 of mon_ctl", RECORD, 7, 0x7F_0000_0000, 0),
+    ("every field of mon_ctl", RECORD, 7, 0x7F_1FFF_FFFF, 0),
+    ("BUSY of mon_ctl", RECORD, 7, 0x80_0000_0000, 3),
+    ("bit 29 of mon_ctl", RECORD, 7, 1 << 29, 3),
+    ("any mon_ctr_val", RECORD, 8, u64::MAX, 0),
+    ("every field of alloc_ctl", RECORD, 9, 0x7F_000F_FFFF, 0),
+    ("BUSY of alloc_ctl", RECORD, 9, 0x80_0000_0001, 3),
+    ("bit 20 of alloc_ctl", RECORD, 9, 1 << 20, 3),
+    ("every field of bw_alloc", RECORD, 10, 0xFFF0_FFFF, 0),
+    ("bit 16 of bw_alloc", RECORD, 10, 1 << 16, 3),
+    ("bit 32 of bw_alloc", RECORD, 10, 1 << 32, 3),
+    ("the pool gave all", RECORD, 11, 1_280, 0),
+    ("the pool gave more", RECORD, 11, 1_281, 3),
+];
+
+const TABLE_FORMS: [Form; 14] = [
+    ("all of a reservation used", USED, 2, 1_920, 0),
+    ("one byte more", USED, 2, 1_921, 3),
+    ("used at a sharer", USED, 3, 1, 3),
+    ("used at an unset pair", USED, 7, 1, 3),
+    ("2^24 - 1 with both flags", COUNTERS, 1, 0xC000_0000_00FF_FFFF, 0),
+    ("2^24", COUNTERS, 1, 0x0100_0000, 3),
+    ("bit 61", COUNTERS, 3, 1 << 61, 3),
+    ("event 3, ATV 1, AT 1", EVENTS, 0, 0x0903, 0),
+    ("event 1, ATV 1, AT 0", EVENTS, 0, 0x0801, 0),
+    ("event 4", EVENTS, 0, 0x0004, 3),
+    ("AT without ATV", EVENTS, 0, 0x0101, 3),
+    ("ATV without an event", EVENTS, 3, 0x0800, 3),
+    ("AT 2 of 2", EVENTS, 3, 0x0A01, 3),
+    ("bit 12", EVENTS, 3, 0x1001, 3),
+];
+
+/// Word, and whether a settings table may have it at RCID 2 AT 0, and at RCID 2 AT 1.
+const SETTING_FORMS: [(&str, u64, u64, u64); 13] = [
+    ("unset", 0, 0, 0),
+    ("20 blocks", 20, 0, 3),
+    ("20 blocks, weight 255", 0x0FF0_0014, 0, 3),
+    ("21 blocks", 21, 3, 3),
+    ("only a weight", 0x0010_0000, 3, 3),
+    ("bit 16", 0x0001_0001, 3, 3),
+    ("bit 19", 0x0008_0001, 3, 3),
+    ("a holder's sharedAT", 0x1000_0001, 3, 3),
+    ("shares AT 0", 0x8000_0000, 3, 0),
+    ("shares AT 1", 0x9000_0000, 3, 3),
+    ("shares AT 2 of 2", 0xA000_0000, 3, 3),
+    ("a sharer's Rbwb", 0x8000_0001, 3, 3),
+    ("a sharer's Mweight", 0x8010_0000, 3, 3),
+];
+
+fn good_state(report: &mut Report) -> BandwidthCase<'_> {
+    let mut c = BandwidthCase::after_reset(report, [100, 80, 4, 2, 4, 64, 24]);
+    c.configure("RCID 0", (0, 0), 30, 1);
+    c.configure("RCID 1", (1, 0), 0x0050_001E, 1);
+    c.configure("RCID 2", (2, 0), 20, 1);
+    c.configure("RCID 1 AT 1", (1, 1), 0x8000_0000, 1);
+    c.end_window();
+    c
+}
+
+fn bandwidth_forms(report: &mut Report) {
+    let mut c = good_state(report);
+    for form in RECORD_FORMS.iter().chain(&TABLE_FORMS) {
+        try_form(&mut c, form);
+    }
+    for (name, word, at_0, at_1) in SETTING_FORMS {
+        for table in [ACTIVE, CONFIGURED] {
+            try_form(&mut c, &(name, table, 4, word, at_0));
+            try_form(&mut c, &(name, table, 5, word, at_1));
+        }
+    }
+    // rules over several words
+    for table in [ACTIVE, CONFIGURED] {
+        try_form(&mut c, &("a shared pair is unset", table, 2, 0, 3));
+        try_form(&mut c, &("a shared pair shares", table, 2, 0x9000_0000, 3));
+        try_form(&mut c, &("81 blocks in all", table, 2, 0x0050_001F, 3));
+        try_form(&mut c, &("79 blocks in all", table, 2, 0x0050_001D, 0));
+        try_form(&mut c, &("65,535 blocks", table, 6, 65_535, 3));
+    }
+}
+
+/// Reads and window ends both judge the state; a reset does not.
+fn try_form(c: &mut BandwidthCase, (name, region, index, value, number): &Form) {
+    c.aside(|c| {
+        c.store(*region, *index, *value);
+        let read = bandwidth::Call::Read { size: 8, offset: 0 };
+        if *number == 0 {
+            c.answers(name, &read, 0x0000_0050_0000_6401);
+            c.answers(name, &bandwidth::Call::EndWindow, 0);
+        } else {
+            c.refuses(name, &read, *number);
+            c.refuses(name, &bandwidth::Call::EndWindow, *number);
+        }
+        let setup = super::case::bandwidth_setup([100, 80, 4, 2, 4, 64, 24]);
+        c.answers("a reset takes any record", &bandwidth::Call::Reset(setup), 0);
+        c.read("and all is well", 8, 0x18, 0);
+    });
+}
+
+fn bandwidth_one_type(report: &mut Report) {
+    let mut c = BandwidthCase::after_reset(report, [100, 80, 4, 1, 4, 64, 24]);
+    let forms: [Form; 6] = [
+        ("AT of alloc_ctl is held as 0", RECORD, 9, 0x20, 3),
+        ("AT of mon_ctl is held as 0", RECORD, 7, 0x80, 3),
+        ("ATV of mon_ctl is held as 0", RECORD, 7, 1 << 28, 3),
+        ("useShared of bw_alloc is not", RECORD, 10, 0x9000_0000, 0),
+        ("no operation stores ATV 1", EVENTS, 0, 0x0801, 3),
+        ("event 1", EVENTS, 0, 0x0001, 0),
+    ];
+    for (name, region, index, value, number) in forms {
+        c.aside(|c| {
+            c.store(region, index, value);
+            match number {
+                0 => c.read(name, 8, 0, 0x0000_0050_0000_6401),
+                _ => c.refuses(name, &bandwidth::Call::EndWindow, number),
+            }
+        });
+    }
+}
+
+fn capacity_forms(report: &mut Report) {
+    let mut c = CapacityCase::after_reset(report, [8, 4, 2, 4, 24]);
+    // slices: 0 record, 1 masks, 2 counters, 3 events
+    let forms: [Form; 19] = [
+        ("every field of mon_ctl", 0, 5, 0x7F_1FFF_FFFF, 0),
+        ("BUSY of mon_ctl", 0, 5, 0x80_0000_0000, 3),
+        ("any mon_ctr_val", 0, 6, u64::MAX, 0),
+        ("every field of alloc_ctl", 0, 7, 0x7F_000F_FFFF, 0),
+        ("BUSY of alloc_ctl", 0, 7, 0x80_0000_0000, 3),
+        ("every block", 0, 8, 0xFF, 0),
+        ("block 8 of block_mask", 0, 8, 0x100, 3),
+        ("a mask of 0 is an unset pair", 1, 0, 0, 0),
+        ("any blocks", 1, 7, 0xA5, 0),
+        ("block 8 of a mask", 1, 7, 0x1FF, 3),
+        ("bit 63 of a mask", 1, 3, 1 << 63, 3),
+        ("2^24 - 1 and INVALID", 2, 3, 0x8000_0000_00FF_FFFF, 0),
+        ("2^24", 2, 3, 0x0100_0000, 3),
+        ("bit 62", 2, 0, 1 << 62, 3),
+        ("event 1, ATV 1, AT 1", 3, 2, 0x0901, 0),
+        ("event 2", 3, 2, 0x0002, 3),
+        ("AT without ATV", 3, 2, 0x0101, 3),
+        ("ATV without an event", 3, 2, 0x0800, 3),
+        ("AT 2 of 2", 3, 2, 0x0A01, 3),
+    ];
+    for (name, region, index, value, number) in forms {
+        c.aside(|c| {
+            c.store(region, index, value);
+            match number {
+                0 => c.read(name, 8, 0, 0x801),
+                _ => c.refuses(name, &capacity::Call::Read { size: 8, offset: 0 }, number),
+            }
+        });
+    }
+}

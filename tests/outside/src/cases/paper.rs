@@ -1,0 +1,106 @@
+//! Document 01, "One controller worked through": P1 to P12, and the listing as calls.
+
+use super::case::BandwidthCase;
+use super::Report;
+
+const SETUP: [u64; 7] = [100, 80, 4, 2, 4, 64, 24];
+
+// slices by number
+const RECORD: usize = 0;
+const USED: usize = 3;
+const COUNTERS: usize = 4;
+/// The record's word with the bytes that the pool gave.
+const POOL: usize = 11;
+
+pub fn run(report: &mut Report) {
+    p1_to_p10(report);
+    p11(report);
+    p12(report);
+    listing(report);
+}
+
+fn p1_to_p10(report: &mut Report) {
+    let mut c = BandwidthCase::after_reset(report, SETUP);
+    c.read("P1 capabilities", 8, 0x00, 0x0000_0050_0000_6401);
+
+    c.write(8, 0x20, 10);
+    c.write(8, 0x18, 0x101);
+    c.read("P2 STATUS 5", 8, 0x18, 0x0000_0005_0000_0101);
+
+    c.write(8, 0x20, 30);
+    c.write(8, 0x18, 1);
+    c.read("P3 RCID 0 to 30", 8, 0x18, 0x0000_0001_0000_0001);
+
+    c.write(8, 0x20, 0x0050_001E);
+    c.write(8, 0x18, 0x101);
+    c.read("P4 RCID 1 to 30, weight 5", 8, 0x18, 0x0000_0001_0000_0101);
+
+    c.write(8, 0x20, 21);
+    c.write(8, 0x18, 0x201);
+    c.read("P5 RCID 2 to 21", 8, 0x18, 0x0000_0005_0000_0201);
+    c.write(8, 0x20, 20);
+    c.write(8, 0x18, 0x201);
+    c.read("P5 RCID 2 to 20", 8, 0x18, 0x0000_0001_0000_0201);
+
+    c.write(8, 0x18, 0x401);
+    c.read("P6 RCID 4", 8, 0x18, 0x0000_0003_0000_0401);
+    c.write(8, 0x18, 0x403);
+    c.read("P6 OP comes first", 8, 0x18, 0x0000_0002_0000_0403);
+
+    c.write(8, 0x20, 0x8000_0000);
+    c.write(8, 0x18, 0x121);
+    c.read("P7 AT 1 shares AT 0", 8, 0x18, 0x0000_0001_0000_0121);
+    c.write(8, 0x20, 0x9000_0000);
+    c.write(8, 0x18, 0x121);
+    c.read("P7 AT 1 shares itself", 8, 0x18, 0x0000_0005_0000_0121);
+
+    p8_to_p10(&mut c);
+}
+
+fn p8_to_p10(c: &mut BandwidthCase) {
+    c.request("P8 before the window end", [1, 0, 0, 0, 10], 0);
+
+    c.end_window();
+    c.request("P9 RCID 1 AT 1", [1, 0, 1, 0, 2_000], 2_000);
+    c.word("P9 from the reservation of AT 0", USED, 2, 1_920);
+    c.word("P9 from the pool", RECORD, POOL, 80);
+
+    c.mon("P10 event 1 of MCID 2", 0x10_0201, 1);
+    c.read("P10 mon_ctl", 8, 0x08, 0x0000_0001_0010_0201);
+    c.mon("P10 event 4", 0x40_0201, 4);
+    c.read("P10 mon_ctl", 8, 0x08, 0x0000_0004_0040_0201);
+
+    // not in the paper: the pool of 1,280 has 1,200 left, and then nothing
+    c.request("after P9, the rest of the pool", [1, 0, 1, 0, 1_300], 1_200);
+    c.request("after P9, nothing is left", [1, 0, 0, 0, 1], 0);
+    c.request("after P9, another's reservation is whole", [2, 0, 0, 0, 1_280], 1_280);
+}
+
+/// The counter is written into the lent table.
+fn p11(report: &mut Report) {
+    let mut c = BandwidthCase::after_reset(report, SETUP);
+    c.mon("P11 event 1 of MCID 3", 0x10_0301, 1);
+    c.store(COUNTERS, 3, 16_777_000);
+    c.request("P11 grant", [0, 3, 0, 0, 300], 300);
+    c.word("P11 counter", COUNTERS, 3, 0x8000_0000_0000_0054);
+    c.mon("P11 READ_COUNTER", 0x302, 1);
+    c.read("P11 mon_ctr_val", 8, 0x10, 0x8000_0000_0000_0054);
+    c.read("P11 OVF in the high half", 4, 0x14, 0x8000_0000);
+}
+
+fn p12(report: &mut Report) {
+    let mut c = BandwidthCase::after_reset(report, [100, 80, 4, 1, 4, 64, 24]);
+    c.write(8, 0x18, 0x121);
+    c.read("P12 the low half", 4, 0x18, 0x101);
+    c.read("P12 bw_alloc is 0, so STATUS 5", 8, 0x18, 0x0000_0005_0000_0101);
+}
+
+/// s 100 80 4 2 4 64 24 · w 8 20 1e · w 8 18 1 · r 8 18 · q 1 0 0 0 10 · e
+fn listing(report: &mut Report) {
+    let mut c = BandwidthCase::after_reset(report, SETUP);
+    c.write(8, 0x20, 0x1e);
+    c.write(8, 0x18, 1);
+    c.read("listing, r 8 18", 8, 0x18, 0x0000_0001_0000_0001);
+    c.request("listing, q 1 0 0 0 10", [1, 0, 0, 0, 10], 0);
+    c.end_window();
+}

@@ -1,0 +1,135 @@
+//! Refusal 3 at every place of every table, in sizes where a library may read the tables in parts.
+
+use super::case::{BandwidthCase, CapacityCase, Case};
+use super::Report;
+use crate::controller::Controller;
+
+pub fn run(report: &mut Report) {
+    for (nr, na) in [(256, 8), (256, 1), (43, 3), (33, 4), (26, 5), (22, 6), (19, 7), (17, 2)] {
+        bandwidth_settings(report, nr, na);
+        bandwidth_sharers(report, nr, na);
+        capacity_masks(report, nr, na);
+    }
+    for nm in [1, 7, 33, 256] {
+        bandwidth_counters(report, nm);
+        capacity_counters(report, nm);
+    }
+}
+
+/// Puts words into the memory, expects a read to be refused by this number or accepted, and puts back.
+fn probe<C: Controller>(c: &mut Case<C>, name: &str, words: &[(usize, usize, u64)], number: u64) {
+    let old: Vec<u64> = words.iter().map(|&(region, index, _)| c.load(region, index)).collect();
+    for &(region, index, value) in words {
+        c.store(region, index, value);
+    }
+    c.refusal(name, &C::read_call(8, 0), number);
+    for (&(region, index, _), &value) in words.iter().zip(&old) {
+        c.store(region, index, value);
+    }
+}
+
+// slices of the bandwidth controller
+const ACTIVE: usize = 1;
+const CONFIGURED: usize = 2;
+const USED: usize = 3;
+const COUNTERS: usize = 4;
+const EVENTS: usize = 5;
+
+/// RCID 0 has 599 of MRBWB 600 blocks of 4 bytes; all pairs of other RCIDs are unset.
+fn one_block_left(report: &mut Report, nr: u64, na: u64) -> BandwidthCase<'_> {
+    let mut c = BandwidthCase::after_reset(report, [1_000, 600, nr, na, 3, 4, 24]);
+    c.configure("RCID 0", (0, 0), 599, 1);
+    c.end_window();
+    c
+}
+
+fn bandwidth_settings(report: &mut Report, nr: u64, na: u64) {
+    let mut c = one_block_left(report, nr, na);
+    probe(&mut c, "RCID 0 used all", &[(USED, 0, 2_396)], 0);
+    probe(&mut c, "RCID 0 used more", &[(USED, 0, 2_397)], 3);
+    for place in na as usize..(nr * na) as usize {
+        for table in [ACTIVE, CONFIGURED] {
+            probe(&mut c, "the last block", &[(table, place, 1)], 0);
+            probe(&mut c, "one block more", &[(table, place, 2)], 3);
+            probe(&mut c, "bit 16", &[(table, place, 0x0001_0000)], 3);
+            probe(&mut c, "only a weight", &[(table, place, 0x0FF0_0000)], 3);
+            probe(&mut c, "shares AT 0, unset", &[(table, place, 0x8000_0000)], 3);
+        }
+        probe(&mut c, "used at an unset pair", &[(USED, place, 1)], 3);
+        probe(&mut c, "used all of a block", &[(ACTIVE, place, 1), (USED, place, 4)], 0);
+        probe(&mut c, "used more than a block", &[(ACTIVE, place, 1), (USED, place, 5)], 3);
+        probe(&mut c, "used of a configured block", &[(CONFIGURED, place, 1), (USED, place, 1)], 3);
+    }
+}
+
+/// In every row, the last AT shares AT 0, which holds a block; then itself, and one that is unset.
+fn bandwidth_sharers(report: &mut Report, nr: u64, na: u64) {
+    if na == 1 {
+        return;
+    }
+    let mut c = one_block_left(report, nr, na);
+    for rcid in 1..nr {
+        let first = (rcid * na) as usize;
+        let last = first + na as usize - 1;
+        let share = |at: u64| 0x8000_0000 | at << 28;
+        for table in [ACTIVE, CONFIGURED] {
+            let holder = (table, first, 1);
+            probe(&mut c, "shares AT 0", &[holder, (table, last, share(0))], 0);
+            probe(&mut c, "shares itself", &[holder, (table, last, share(na - 1))], 3);
+            if na < 8 {
+                probe(&mut c, "shares AT NA", &[holder, (table, last, share(na))], 3);
+            }
+            if na > 2 {
+                probe(&mut c, "shares an unset pair", &[holder, (table, last, share(1))], 3);
+                let sharer = (table, first + 1, share(0));
+                probe(&mut c, "shares a sharer", &[holder, sharer, (table, last, share(1))], 3);
+                probe(&mut c, "two sharers", &[holder, sharer, (table, last, share(0))], 0);
+            }
+        }
+        probe(&mut c, "used at a sharer", &[(ACTIVE, first, 1), (USED, last, 1)], 3);
+    }
+}
+
+fn bandwidth_counters(report: &mut Report, nm: u64) {
+    let mut c = BandwidthCase::after_reset(report, [100, 80, 2, 3, nm, 64, 30]);
+    for mcid in 0..nm as usize {
+        probe(&mut c, "2^30 - 1", &[(COUNTERS, mcid, (1 << 30) - 1)], 0);
+        probe(&mut c, "2^30", &[(COUNTERS, mcid, 1 << 30)], 3);
+        probe(&mut c, "bit 61", &[(COUNTERS, mcid, 1 << 61)], 3);
+        probe(&mut c, "the flags", &[(COUNTERS, mcid, 3 << 62)], 0);
+        probe(&mut c, "event 3, AT 2", &[(EVENTS, mcid, 0x0A03)], 0);
+        probe(&mut c, "event 3, AT 3 of 3", &[(EVENTS, mcid, 0x0B03)], 3);
+        probe(&mut c, "event 4", &[(EVENTS, mcid, 0x0004)], 3);
+        probe(&mut c, "event 128", &[(EVENTS, mcid, 0x0080)], 3);
+        probe(&mut c, "AT without ATV", &[(EVENTS, mcid, 0x0201)], 3);
+        probe(&mut c, "ATV without an event", &[(EVENTS, mcid, 0x0800)], 3);
+        probe(&mut c, "bit 15", &[(EVENTS, mcid, 0x8001)], 3);
+    }
+}
+
+/// 47 blocks: bit 47 and those above are held as 0.
+fn capacity_masks(report: &mut Report, nr: u64, na: u64) {
+    let mut c = CapacityCase::after_reset(report, [47, nr, na, 3, 24]);
+    for place in 0..(nr * na) as usize {
+        probe(&mut c, "every block", &[(1, place, (1 << 47) - 1)], 0);
+        probe(&mut c, "no block", &[(1, place, 0)], 0);
+        probe(&mut c, "bit 47", &[(1, place, 1 << 47)], 3);
+        probe(&mut c, "bit 63", &[(1, place, 1 << 63)], 3);
+    }
+}
+
+fn capacity_counters(report: &mut Report, nm: u64) {
+    let mut c = CapacityCase::after_reset(report, [8, 2, 3, nm, 30]);
+    for mcid in 0..nm as usize {
+        probe(&mut c, "2^30 - 1", &[(2, mcid, (1 << 30) - 1)], 0);
+        probe(&mut c, "2^30", &[(2, mcid, 1 << 30)], 3);
+        probe(&mut c, "bit 62", &[(2, mcid, 1 << 62)], 3);
+        probe(&mut c, "INVALID", &[(2, mcid, 1 << 63)], 0);
+        probe(&mut c, "event 1, AT 2", &[(3, mcid, 0x0A01)], 0);
+        probe(&mut c, "event 1, AT 3 of 3", &[(3, mcid, 0x0B01)], 3);
+        probe(&mut c, "event 2", &[(3, mcid, 0x0002)], 3);
+        probe(&mut c, "event 3", &[(3, mcid, 0x0003)], 3);
+        probe(&mut c, "AT without ATV", &[(3, mcid, 0x0201)], 3);
+        probe(&mut c, "bit 12", &[(3, mcid, 0x1001)], 3);
+    }
+}

@@ -1,0 +1,71 @@
+//! What a run has shown, counted, and what it must show.
+
+pub mod bandwidth;
+pub mod capacity;
+
+use std::collections::BTreeMap;
+
+use crate::model::access::{ALLOC_CTL, MON_CTL};
+use crate::model::registers::STATUS;
+
+pub type Labels = Vec<String>;
+
+#[derive(Default)]
+pub struct Coverage {
+    pub lists: u64,
+    pub calls: u64,
+    /// Calls after which the ledger's claims were checked.
+    pub claimed: u64,
+    counts: BTreeMap<String, u64>,
+}
+
+impl Coverage {
+    pub fn note(&mut self, labels: Labels) {
+        for label in labels {
+            *self.counts.entry(label).or_insert(0) += 1;
+        }
+    }
+
+    /// The labels that never came up.
+    pub fn missing(&self, required: Vec<String>) -> Vec<String> {
+        required.into_iter().filter(|label| !self.counts.contains_key(label)).collect()
+    }
+
+    pub fn print(&self, controller: &str) {
+        let (lists, calls, claimed) = (self.lists, self.calls, self.claimed);
+        println!("{controller}: {calls} calls in {lists} lists, claims checked after {claimed}");
+        for (label, count) in &self.counts {
+            println!("  {count:>8}  {label}");
+        }
+    }
+}
+
+/// "read refused 3" or "read accepted".
+fn outcome(call: &str, refusal: u64) -> String {
+    match refusal {
+        0 => format!("{call} accepted"),
+        number => format!("{call} refused {number}"),
+    }
+}
+
+/// The label of an operation's STATUS, if an accepted write performed one.
+fn operation(offset: u64, alloc_ctl: u64, mon_ctl: u64) -> Option<String> {
+    match offset {
+        ALLOC_CTL => Some(format!("alloc_ctl STATUS {}", STATUS.get(alloc_ctl))),
+        MON_CTL => Some(format!("mon_ctl STATUS {}", STATUS.get(mon_ctl))),
+        _ => None,
+    }
+}
+
+/// Labels that both controllers must show: each refusal of each call, and each STATUS.
+fn common_required(refusals: &[(&str, &[u64])]) -> Vec<String> {
+    let mut labels = Vec::new();
+    for (call, numbers) in refusals {
+        labels.push(outcome(call, 0));
+        labels.extend(numbers.iter().map(|&number| outcome(call, number)));
+    }
+    for register in ["alloc_ctl", "mon_ctl"] {
+        labels.extend((1..=5).map(|status| format!("{register} STATUS {status}")));
+    }
+    labels
+}

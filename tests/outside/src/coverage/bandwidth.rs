@@ -1,0 +1,180 @@
+//! What a run shows of the bandwidth controller.
+
+use super::{common_required, operation, outcome, Labels};
+use crate::model::access::ALLOC_CTL;
+use crate::model::bandwidth::settings::{is_sharer, weight, RBWB, SHARED_AT, USE_SHARED};
+use crate::model::bandwidth::{fault, holder_of, Call, Request, State, OVF};
+use crate::model::registers::{AT, RCID, STATUS};
+use crate::model::{access_type, Answer};
+
+fn name(call: &Call) -> &'static str {
+    match call {
+        Call::Reset(_) => "reset",
+        Call::Read { .. } => "read",
+        Call::Write { .. } => "write",
+        Call::Request(_) => "request",
+        Call::EndWindow => "end_window",
+    }
+}
+
+pub fn labels(before: &State, call: &Call, answer: Answer, after: &State) -> Labels {
+    let mut labels = vec![outcome(name(call), answer.refusal)];
+    if answer.refusal == 3 {
+        labels.push(format!("refused 3 for {}", fault(before).unwrap_or("nothing")));
+    }
+    if answer.refusal != 0 {
+        return labels;
+    }
+    match call {
+        Call::Write { offset, .. } => {
+            labels.extend(operation(*offset, after.record.alloc_ctl, after.record.mon_ctl));
+            labels.extend(setting_change(before, after));
+            if *offset == ALLOC_CTL && STATUS.get(after.record.alloc_ctl) == 5 {
+                labels.push(format!("bad operand: {}", bad_operand(after)));
+            }
+        }
+        Call::Request(request) => {
+            labels.push(source(before, request, answer.value, after));
+            labels.extend(counter_change(before, request, answer.value, after));
+        }
+        Call::EndWindow if before.active != after.active => {
+            labels.push("window end put other settings in force".into());
+        }
+        _ => {}
+    }
+    labels
+}
+
+/// A setting that was stored, by what it was and what it became.
+fn setting_change(before: &State, after: &State) -> Option<String> {
+    let kind = |word: u32| match word {
+        0 => "unset pair",
+        word if is_sharer(word) => "sharer",
+        _ => "holder",
+    };
+    let mut pairs = before.configured.iter().zip(&after.configured);
+    let (&old, &new) = pairs.find(|(old, new)| old != new)?;
+    Some(format!("{} became {}", kind(old), kind(new)))
+}
+
+/// Why alloc_ctl's operation ended in STATUS 5.
+fn bad_operand(state: &State) -> &'static str {
+    let (setup, operand) = (&state.record.setup, state.record.bw_alloc);
+    let (rcid, at) = (RCID.get(state.record.alloc_ctl), AT.get(state.record.alloc_ctl));
+    let target = SHARED_AT.get(operand);
+    if USE_SHARED.get(operand) == 0 {
+        return if RBWB.get(operand) == 0 { "Rbwb 0" } else { "more than MRBWB" };
+    }
+    if target == at {
+        return "shares itself";
+    }
+    if target >= setup.na {
+        return "shares an AT at or above NA";
+    }
+    match state.configured[setup.place(rcid, target)] {
+        0 => "shares an unset pair",
+        word if is_sharer(word) => "shares a sharer",
+        _ => "another AT shares this one",
+    }
+}
+
+/// Where a grant came from, and whether it was all that was asked.
+fn source(before: &State, request: &Request, granted: u64, after: &State) -> String {
+    let setup = &before.record.setup;
+    let at = access_type(request.at, setup.na);
+    let place = match holder_of(setup, &before.active, request.rcid, at) {
+        Some(place) => place,
+        None => return "granted 0: no holder".into(),
+    };
+    let reservation = before.used != after.used;
+    let pool = before.record.pool_given != after.record.pool_given;
+    let hard = if weight(before.active[place]) == 0 { ", weight 0" } else { "" };
+    let part = match (granted, request.bytes as u64) {
+        (_, 0) => return "granted 0: asked 0".into(),
+        (0, _) => return format!("granted 0: nothing left{hard}"),
+        (granted, asked) if granted < asked => "in part",
+        _ => "in full",
+    };
+    match (reservation, pool) {
+        (true, false) => format!("granted {part} from the reservation{hard}"),
+        (false, true) => format!("granted {part} from the pool"),
+        _ => format!("granted {part} from both"),
+    }
+}
+
+fn counter_change(before: &State, request: &Request, granted: u64, after: &State) -> Labels {
+    let mcid = request.mcid as usize;
+    let (old, new) = (before.counters[mcid], after.counters[mcid]);
+    let limit = 1u64 << before.record.setup.w;
+    let mut labels = Vec::new();
+    if old == new {
+        return labels;
+    }
+    let ovf = |word: u64| OVF.get(word) == 1;
+    let wrapped = (old & (limit - 1)) + granted >= limit;
+    if wrapped {
+        labels.push("counter wrapped".into());
+    }
+    if granted >= 2 * limit {
+        labels.push("counter wrapped many times in one grant".into());
+    }
+    if ovf(old) && !wrapped {
+        labels.push("counter kept OVF".into());
+    }
+    if old >> 62 & 1 == 1 {
+        labels.push("counter kept INVALID".into());
+    }
+    labels
+}
+
+pub fn required() -> Labels {
+    let mut labels = common_required(&[
+        ("reset", &[1, 2]),
+        ("read", &[1, 2, 3, 4, 5]),
+        ("write", &[1, 2, 3, 4, 5, 6]),
+        ("request", &[1, 2, 3, 7]),
+        ("end_window", &[1, 2, 3]),
+    ]);
+    labels.extend(OTHERS.map(String::from));
+    labels
+}
+
+const OTHERS: [&str; 37] = [
+    "refused 3 for a register",
+    "refused 3 for a configured setting",
+    "refused 3 for a setting in force",
+    "refused 3 for used bytes",
+    "refused 3 for the pool's bytes",
+    "refused 3 for a counter",
+    "refused 3 for a counter setting",
+    "bad operand: Rbwb 0",
+    "bad operand: more than MRBWB",
+    "bad operand: shares itself",
+    "bad operand: shares an AT at or above NA",
+    "bad operand: shares an unset pair",
+    "bad operand: shares a sharer",
+    "bad operand: another AT shares this one",
+    "window end put other settings in force",
+    "unset pair became holder",
+    "unset pair became sharer",
+    "holder became holder",
+    "holder became sharer",
+    "sharer became holder",
+    "sharer became sharer",
+    "granted 0: no holder",
+    "granted 0: asked 0",
+    "granted 0: nothing left",
+    "granted 0: nothing left, weight 0",
+    "granted in full from the reservation",
+    "granted in full from the reservation, weight 0",
+    "granted in part from the reservation",
+    "granted in part from the reservation, weight 0",
+    "granted in full from the pool",
+    "granted in part from the pool",
+    "granted in full from both",
+    "granted in part from both",
+    "counter wrapped",
+    "counter wrapped many times in one grant",
+    "counter kept OVF",
+    "counter kept INVALID",
+];

@@ -1,0 +1,12 @@
+//! Lists of calls from a fixed seed: scenarios that mostly succeed, boundary values, refused calls,
+//! damaged records and tables, wrong lengths.
+
+pub mod bandwidth;
+pub mod capacity;
+mod common;
+mod random;
+mod setups;
+mod step;
+
+pub use random::Random;
+pub use step::{Change, Kind, Step};

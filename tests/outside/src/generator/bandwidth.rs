@@ -1,0 +1,247 @@
+//! Lists of calls of the bandwidth controller.
+
+mod damage;
+mod operand;
+mod states;
+
+use super::common::{self, Write};
+use super::setups::{bandwidth_in_range, bandwidth_outside};
+use super::{Random, Step};
+use crate::model::access::{ALLOC_CTL, MON_CTR_VAL, OPERAND};
+use crate::model::bandwidth::settings::{reserved, weight};
+use crate::model::bandwidth::{
+    holder_of, in_range, pool_size, table_lengths, well_formed, Call, Request, Setup, State,
+    LAST_EVENT, RECORD_LENGTH,
+};
+use crate::model::registers::{CONFIG_EVENT, CONFIG_LIMIT, READ_COUNTER, READ_LIMIT};
+use operand::any_operand;
+
+type Steps = Vec<Step<Call>>;
+
+/// A list begins with any bytes in the record and tables, perhaps a call on these, and a reset.
+pub fn opening(random: &mut Random) -> Steps {
+    let setup = bandwidth_in_range(random);
+    let mut steps = vec![lend(random, &setup)];
+    if random.percent(30) {
+        steps.push(Step::Call(any_call(random, &setup)));
+    }
+    steps.push(Step::Call(Call::Reset(setup)));
+    steps
+}
+
+/// New memory of a set-up's size with any bytes.
+fn lend(random: &mut Random, setup: &Setup) -> Step<Call> {
+    let mut lengths = vec![RECORD_LENGTH];
+    lengths.extend(table_lengths(setup));
+    let contents = common::any_bytes(random, &lengths);
+    Step::Lend { contents, skew: random.below(8) as usize }
+}
+
+/// Some steps for the state as it is. In a quiet list nobody but the calls changes the memory.
+pub fn scenario(random: &mut Random, state: &State, lengths: &[usize], quiet: bool) -> Steps {
+    let setup = state.record.setup;
+    if !in_range(&setup) || lengths[1..] != table_lengths(&setup) || !well_formed(state) {
+        return recovery(random);
+    }
+    // large tables may be read in parts: more of what only refusal 3 can show
+    if !quiet && setup.pairs() > 32 && random.percent(40) {
+        return damage::damaged_call(random, state, lengths);
+    }
+    match random.below(if quiet { 90 } else { 100 }) {
+        0..=29 => configuration(random, state),
+        30..=51 => requests(random, state),
+        52..=60 => vec![Step::Call(Call::EndWindow)],
+        61..=71 => monitoring(random, state),
+        72..=86 => vec![Step::Call(any_call(random, &setup))],
+        87..=89 => {
+            let call = any_call(random, &setup);
+            vec![common::wrong_length(random, lengths, call)]
+        }
+        90..=95 => damage::damaged_call(random, state, lengths),
+        96 => damage::kept_damage(random, state, lengths),
+        97 => edge_of_counter(random, state),
+        98 => states::loaded(random, &setup),
+        _ => another_reset(random, &setup),
+    }
+}
+
+/// A call on what cannot be used, then a reset that makes all good again.
+fn recovery(random: &mut Random) -> Steps {
+    let setup = bandwidth_in_range(random);
+    let mut steps = vec![Step::Call(any_call(random, &setup))];
+    if random.percent(60) {
+        steps.push(lend(random, &setup));
+        steps.push(Step::Call(Call::Reset(setup)));
+    }
+    steps
+}
+
+/// A reset: of the same size, of another one with or without new memory, or out of range.
+pub fn another_reset(random: &mut Random, setup: &Setup) -> Steps {
+    let other = bandwidth_in_range(random);
+    match random.below(4) {
+        0 => vec![Step::Call(Call::Reset(*setup))],
+        1 => vec![Step::Call(Call::Reset(other))],
+        2 => vec![Step::Call(Call::Reset(bandwidth_outside(random)))],
+        _ => {
+            let call = Step::Call(any_call(random, &other));
+            vec![lend(random, &other), call, Step::Call(Call::Reset(other))]
+        }
+    }
+}
+
+fn write((size, offset, value): Write) -> Step<Call> {
+    Step::Call(Call::Write { size, offset, value })
+}
+
+fn read(size: u64, offset: u64) -> Step<Call> {
+    Step::Call(Call::Read { size, offset })
+}
+
+/// Any call, with arguments of every kind.
+fn any_call(random: &mut Random, setup: &Setup) -> Call {
+    let (size, offset, value) = match random.below(12) {
+        0 | 1 => {
+            let (size, offset) = common::access(random);
+            return Call::Read { size, offset };
+        }
+        2 | 3 => {
+            let bytes = random.number() as u32;
+            return Call::Request(any_request(random, setup, bytes));
+        }
+        4 => return Call::EndWindow,
+        5 if random.percent(40) => return Call::Reset(bandwidth_outside(random)),
+        5..=7 => common::any_write(random),
+        8 | 9 => common::any_alloc_ctl(random, setup.nr, setup.na),
+        _ => common::any_mon_ctl(random, setup.na, setup.nm, LAST_EVENT),
+    };
+    Call::Write { size, offset, value }
+}
+
+/// Writes an operand, asks for it to be configured, and often reads it back.
+fn configuration(random: &mut Random, state: &State) -> Steps {
+    let (rcid, at, operand) = any_operand(random, state);
+    let junk = if random.percent(30) { random.next() << 32 | 0xF_0000 } else { 0 };
+    let operand =
+        if random.percent(30) { (4, OPERAND, operand) } else { (8, OPERAND, operand | junk) };
+    let mut steps = vec![write(operand), write(common::alloc_ctl(random, CONFIG_LIMIT, rcid, at))];
+    if random.percent(30) {
+        steps.push(read(8, ALLOC_CTL));
+    }
+    if random.percent(40) {
+        steps.push(read(random.pick(&[4, 8]), OPERAND));
+        steps.push(write(common::alloc_ctl(random, READ_LIMIT, rcid, at)));
+        steps.push(read(random.pick(&[4, 8]), OPERAND));
+    }
+    steps
+}
+
+fn requests(random: &mut Random, state: &State) -> Steps {
+    let setup = &state.record.setup;
+    let count = random.between(1, 5);
+    (0..count)
+        .map(|_| {
+            let mut request = any_request(random, setup, 0);
+            if random.percent(60) {
+                (request.rcid, request.at) = active_pair(random, state);
+            }
+            request.bytes = likely_bytes(random, state, &request);
+            Step::Call(Call::Request(request))
+        })
+        .collect()
+}
+
+/// A pair that is a holder or a sharer in force, if a few tries find one.
+fn active_pair(random: &mut Random, state: &State) -> (u64, u64) {
+    let setup = &state.record.setup;
+    let mut pair = (0, 0);
+    for _ in 0..4 {
+        pair = (random.below(setup.nr), random.below(setup.na));
+        if state.active[setup.place(pair.0, pair.1)] != 0 {
+            break;
+        }
+    }
+    pair
+}
+
+fn any_request(random: &mut Random, setup: &Setup, bytes: u32) -> Request {
+    let kind = match random.below(8) {
+        0 => random.number(),
+        other => other % 2,
+    };
+    // few RCIDs are set up, so low numbers come more often
+    let rcid =
+        if random.percent(40) { random.below(setup.nr.min(3)) } else { random.index(setup.nr) };
+    let at = if random.percent(90) { random.below(setup.na) } else { random.number() };
+    Request { rcid, mcid: random.index(setup.nm), at, kind, bytes }
+}
+
+/// Bytes near what the holder has left and what the pool has left.
+fn likely_bytes(random: &mut Random, state: &State, request: &Request) -> u32 {
+    let setup = &state.record.setup;
+    let at = if request.at < setup.na { request.at } else { 0 };
+    let rcid = request.rcid.min(setup.nr - 1);
+    let left = match holder_of(setup, &state.active, rcid, at) {
+        Some(place) => reserved(state.active[place]) * setup.q - state.used[place] as u64,
+        None => setup.q,
+    };
+    let pool_left = pool_size(setup, &state.active) - state.record.pool_given;
+    let bytes = match random.below(10) {
+        0 => left,
+        1 => left + 1,
+        2 => left + pool_left,
+        3 => left + pool_left + 1,
+        4 => left + pool_left / 2,
+        5 => random.number(),
+        6 => u32::MAX as u64,
+        7 => left / 2,
+        _ => random.below(3 * setup.q + 1),
+    };
+    bytes.min(u32::MAX as u64) as u32
+}
+
+/// Sets a counter's event, makes requests that it may count, and reads it.
+fn monitoring(random: &mut Random, state: &State) -> Steps {
+    let setup = &state.record.setup;
+    if random.percent(30) {
+        let value = common::any_mon_ctl(random, setup.na, setup.nm, LAST_EVENT);
+        return vec![write(value), read(8, MON_CTR_VAL)];
+    }
+    let mcid = random.below(setup.nm);
+    let fields = common::event_fields(random, setup.na, LAST_EVENT);
+    let mut steps = vec![write(common::mon_ctl(random, CONFIG_EVENT, mcid, fields))];
+    for mut step in requests(random, state) {
+        if let Step::Call(Call::Request(request)) = &mut step {
+            if random.percent(80) {
+                request.mcid = mcid;
+            }
+        }
+        steps.push(step);
+    }
+    let fields = common::event_fields(random, setup.na, LAST_EVENT);
+    steps.push(write(common::mon_ctl(random, READ_COUNTER, mcid, fields)));
+    steps.push(read(8, MON_CTR_VAL));
+    steps
+}
+
+/// Puts a counter near 2^W into the lent table, as a caller may, and lets grants reach it.
+fn edge_of_counter(random: &mut Random, state: &State) -> Steps {
+    let setup = &state.record.setup;
+    let mcid = random.below(setup.nm);
+    let near = (1u64 << setup.w) - 1 - random.below(3 * setup.q);
+    let flags = random.below(4) << 62;
+    let counter = super::Change::word(4, 8, mcid as usize, near | flags);
+    let event = super::Change::word(5, 2, mcid as usize, random.between(1, 3));
+    let mut steps = vec![Step::Change(vec![counter, event]), Step::Call(Call::EndWindow)];
+    let likely = (0..state.active.len()).find(|&place| weight(state.configured[place]) != 0);
+    let rcid = likely.map_or(0, |place| place as u64 / setup.na);
+    for _ in 0..3 {
+        let bytes = random.below(6 * setup.q) as u32;
+        let request = any_request(random, setup, bytes);
+        steps.push(Step::Call(Call::Request(Request { rcid, mcid, ..request })));
+    }
+    steps.push(write((8, 8, READ_COUNTER | mcid << 8)));
+    steps.push(read(8, MON_CTR_VAL));
+    steps.extend(another_reset(random, setup));
+    steps
+}

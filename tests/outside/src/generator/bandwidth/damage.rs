@@ -1,0 +1,121 @@
+//! Damaged records and tables of the bandwidth controller.
+
+use super::super::common::flipped_bit;
+use super::super::{Change, Random, Step};
+use super::{any_call, Steps};
+use crate::model::bandwidth::settings::{all_reserved, reserved};
+use crate::model::bandwidth::{pool_size, Setup, State};
+
+// the slices by number, and the bytes of a word in each
+const RECORD: usize = 0;
+const USED: usize = 3;
+const COUNTERS: usize = 4;
+const EVENTS: usize = 5;
+
+/// One call on damaged memory; where it is refused the damage is undone.
+pub fn damaged_call(random: &mut Random, state: &State, lengths: &[usize]) -> Steps {
+    let changes = vec![damage(random, state, lengths)];
+    let call = any_call(random, &state.record.setup);
+    vec![Step::Damaged { changes, call }]
+}
+
+/// Damage that stays, and calls on it; the next scenario finds what is left.
+pub fn kept_damage(random: &mut Random, state: &State, lengths: &[usize]) -> Steps {
+    let count = random.between(1, 2);
+    let changes = (0..count).map(|_| damage(random, state, lengths)).collect();
+    let mut steps = vec![Step::Change(changes)];
+    for _ in 0..random.between(1, 4) {
+        steps.push(Step::Call(any_call(random, &state.record.setup)));
+    }
+    steps
+}
+
+/// A flipped bit, or a word overwritten with a value at the end of what is allowed there.
+pub fn damage(random: &mut Random, state: &State, lengths: &[usize]) -> Change {
+    match random.below(8) {
+        0 | 1 => flipped_bit(random, lengths),
+        2 => setup_word(random, &state.record.setup),
+        3 => register_word(random, state),
+        4 => setting(random, state),
+        5 => used(random, state),
+        6 => counter(random, &state.record.setup),
+        _ => event(random, &state.record.setup),
+    }
+}
+
+/// A number of the set-up in the record, at an end of its range or beyond.
+fn setup_word(random: &mut Random, setup: &Setup) -> Change {
+    let index = random.below(7) as usize;
+    let values = match index {
+        0 => vec![0, setup.mrbwb, setup.mrbwb - 1, 65_535, 65_536],
+        1 => vec![0, 1, setup.nbwblks, setup.nbwblks + 1],
+        2 => vec![0, 1, setup.na, 256, 257],
+        3 => vec![0, 1, setup.nr, 8, 9],
+        4 => vec![0, 1, 256, 257],
+        5 => vec![0, 1, 65_536, 65_537],
+        _ => vec![23, 24, 62, 63, 64],
+    };
+    let value = if random.percent(20) { random.number() } else { random.pick(&values) };
+    Change::word(RECORD, 8, index, value)
+}
+
+/// A register or the pool's bytes in the record.
+fn register_word(random: &mut Random, state: &State) -> Change {
+    let index = random.between(7, 11) as usize;
+    let pool = pool_size(&state.record.setup, &state.active);
+    let value = match (index, random.below(3)) {
+        (11, 0) => pool,
+        (11, 1) => pool + 1,
+        (_, 0) => 1 << random.below(64),
+        (_, 1) => random.next() & 0x7F_1FFF_FFFF,
+        _ => random.number(),
+    };
+    Change::word(RECORD, 8, index, value)
+}
+
+/// A word of the active or the configured table.
+fn setting(random: &mut Random, state: &State) -> Change {
+    let setup = &state.record.setup;
+    let table = random.between(1, 2) as usize;
+    let words = if table == 1 { &state.active } else { &state.configured };
+    let place = random.place(setup.pairs() as u64);
+    let free = setup.mrbwb - (all_reserved(words) - reserved(words[place]));
+    let value = match random.below(9) {
+        0 => 0,
+        1 => free,
+        2 => free + 1,
+        3 => 1 << 20,
+        4 => 0x8000_0000 | random.below(8) << 28,
+        5 => 0x8000_0000 | random.below(8) << 28 | random.pick(&[1, 1 << 20]),
+        6 => 1 | random.below(8) << 28,
+        7 => words[place] as u64 ^ 1 << random.below(32),
+        _ => random.next(),
+    };
+    Change::word(table, 4, place, value & 0xFFFF_FFFF)
+}
+
+/// A word of the used table: all of a reservation, one more, or one byte where nothing is reserved.
+fn used(random: &mut Random, state: &State) -> Change {
+    let setup = &state.record.setup;
+    let place = random.place(setup.pairs() as u64);
+    let limit = reserved(state.active[place]) * setup.q;
+    let value = random.pick(&[0, 1, limit, limit + 1, limit + setup.q, 0xFFFF_FFFF]);
+    Change::word(USED, 4, place, value & 0xFFFF_FFFF)
+}
+
+fn counter(random: &mut Random, setup: &Setup) -> Change {
+    let limit = 1u64 << setup.w;
+    let value = random.pick(&[0, limit - 1, limit, limit + 1, 1 << 61]);
+    let flags = random.below(4) << 62;
+    Change::word(COUNTERS, 8, random.place(setup.nm), value | flags)
+}
+
+/// A counter setting: events 0 to 4, any AT, ATV, or a bit beyond these.
+fn event(random: &mut Random, setup: &Setup) -> Change {
+    let value = match random.below(4) {
+        0 => 1 << random.below(16),
+        1 => random.next() & 0xFFFF,
+        _ => random.below(5) | random.below(setup.na + 1) << 8 | random.below(2) << 11,
+    };
+    Change::word(EVENTS, 2, random.place(setup.nm), value)
+}

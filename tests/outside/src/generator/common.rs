@@ -1,0 +1,136 @@
+//! Pieces of calls that both controllers share.
+
+use super::{Change, Kind, Random, Step};
+use crate::model::access::{ALLOC_CTL, MON_CTL};
+use crate::model::registers::{AT, ATV, EVT_ID, MCID, OP, RCID};
+
+/// The arguments of a write: size, offset and value.
+pub type Write = (u64, u64, u64);
+
+/// Size and offset of an access: often a good one, at times of a wrong size,
+/// unaligned, ending beyond byte 40 or beyond 2^64.
+pub fn access(random: &mut Random) -> (u64, u64) {
+    let size = random.pick(&[4, 8]);
+    match random.below(20) {
+        0 => (random.pick(&[0, 1, 2, 3, 5, 6, 7, 9, 12, 16]), random.below(50)),
+        1 => (size | 1 << random.below(64), 8 * random.below(5)),
+        2 | 3 => (size, random.below(50)),
+        4 => (size, (8 * random.below(5)) | (1 << random.below(64))),
+        5 => (size, u64::MAX - random.below(17)),
+        6..=12 => (4, 4 * random.below(10)),
+        _ => (8, 8 * random.below(5)),
+    }
+}
+
+/// Any write, with a value that often fits.
+pub fn any_write(random: &mut Random) -> Write {
+    let (size, offset) = access(random);
+    let value = if random.percent(50) { random.number() } else { random.next() };
+    if size != 4 {
+        return (size, offset, value);
+    }
+    let excess = if random.percent(15) { 1 << random.between(32, 63) } else { 0 };
+    (size, offset, value & 0xFFFF_FFFF | excess)
+}
+
+/// A write of a control register that performs an operation: whole, or the low half.
+pub fn control_write(random: &mut Random, offset: u64, fields: u64) -> Write {
+    if random.percent(30) {
+        return (4, offset, fields);
+    }
+    let junk = if random.percent(30) { random.next() << 32 } else { 0 };
+    (8, offset, fields | junk)
+}
+
+/// alloc_ctl with this operation and pair, and at times with bits outside the fields.
+pub fn alloc_ctl(random: &mut Random, op: u64, rcid: u64, at: u64) -> Write {
+    let junk = if random.percent(20) { random.below(1 << 12) << 20 } else { 0 };
+    let fields = OP.place(op) | AT.place(at) | RCID.place(rcid) | junk;
+    control_write(random, ALLOC_CTL, fields)
+}
+
+/// alloc_ctl with any operation and mostly an existing pair.
+pub fn any_alloc_ctl(random: &mut Random, nr: u64, na: u64) -> Write {
+    let op = operation(random);
+    let rcid = random.field_index(nr, 12);
+    let at = random.field_index(na, 3);
+    alloc_ctl(random, op, rcid, at)
+}
+
+/// Mostly operation 1 or 2.
+fn operation(random: &mut Random) -> u64 {
+    match random.below(10) {
+        0 => random.below(32),
+        1 => random.pick(&[0, 3, 31]),
+        2..=6 => 1,
+        _ => 2,
+    }
+}
+
+/// The fields of mon_ctl but MCID and OP.
+#[derive(Clone, Copy)]
+pub struct EventFields {
+    pub event: u64,
+    pub at: u64,
+    pub atv: u64,
+}
+
+/// Mostly a known event, and an access type that is often filtered by.
+pub fn event_fields(random: &mut Random, na: u64, last_event: u64) -> EventFields {
+    let event = match random.below(12) {
+        0 => 0,
+        1 => last_event + 1,
+        2 => random.pick(&[127, 128, 255]),
+        _ => random.between(1, last_event),
+    };
+    let atv = random.below(2);
+    EventFields { event, at: random.field_index(na, 3), atv }
+}
+
+pub fn mon_ctl(random: &mut Random, op: u64, mcid: u64, fields: EventFields) -> Write {
+    let junk = if random.percent(20) { random.below(8) << 29 } else { 0 };
+    let value = OP.place(op)
+        | AT.place(fields.at)
+        | MCID.place(mcid)
+        | EVT_ID.place(fields.event)
+        | ATV.place(fields.atv)
+        | junk;
+    control_write(random, MON_CTL, value)
+}
+
+/// mon_ctl with any operation and mostly an existing counter.
+pub fn any_mon_ctl(random: &mut Random, na: u64, nm: u64, last_event: u64) -> Write {
+    let op = operation(random);
+    let mcid = random.field_index(nm, 12);
+    let fields = event_fields(random, na, last_event);
+    mon_ctl(random, op, mcid, fields)
+}
+
+/// Slices of these lengths with any bytes.
+pub fn any_bytes(random: &mut Random, lengths: &[usize]) -> Vec<Vec<u8>> {
+    let zero = random.percent(20);
+    let mut byte = || if zero { 0 } else { random.next() as u8 };
+    lengths.iter().map(|&length| (0..length).map(|_| byte()).collect()).collect()
+}
+
+/// The call with one slice cut or made longer.
+pub fn wrong_length<C>(random: &mut Random, lengths: &[usize], call: C) -> Step<C> {
+    let region = random.below(lengths.len() as u64) as usize;
+    let right = lengths[region];
+    let length = match random.below(6) {
+        0 => 0,
+        1 => right + 1,
+        2 => right.saturating_sub(1),
+        3 => right + 8,
+        4 => right.saturating_sub(8),
+        _ => right * 2,
+    };
+    Step::WrongLength { region, length, call }
+}
+
+/// One bit anywhere in the record or a table.
+pub fn flipped_bit(random: &mut Random, lengths: &[usize]) -> Change {
+    let region = random.below(lengths.len() as u64) as usize;
+    let at = random.below(lengths[region].max(1) as u64) as usize;
+    Change { region, at, kind: Kind::FlipBit(random.below(8) as u32) }
+}

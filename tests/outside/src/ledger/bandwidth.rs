@@ -1,0 +1,304 @@
+//! The ledger of the bandwidth controller and the claims of demand 3.
+
+use super::claim;
+use crate::model::access::{self, Part};
+use crate::model::bandwidth::settings::{all_reserved, named_bits, reserved, stored_form, weight};
+use crate::model::bandwidth::{
+    alloc_status, counted, first_settings, holder_of, pool_size, Call, Request, Setup, State, CTR,
+    LAST_EVENT, OVF,
+};
+use crate::model::monitor::{mon_status, setting_of};
+use crate::model::registers::{
+    alloc_ctl_fields, mon_ctl_fields, AT, CONFIG_EVENT, CONFIG_LIMIT, DONE, EVT_ID, MCID, OP, RCID,
+};
+use crate::model::{access_type, Answer};
+
+pub struct Ledger {
+    setup: Setup,
+    bw_alloc: u64,
+    configured: Vec<u32>,
+    active: Vec<u32>,
+    /// Each pair's last accepted setting since the reset.
+    accepted: Vec<Option<u32>>,
+    window: Window,
+    tallies: Vec<Tally>,
+}
+
+/// Bytes of one window, by the holder's place in the tables.
+struct Window {
+    asked: Vec<u64>,
+    granted: Vec<u64>,
+    sum: u64,
+}
+
+/// One counter: its setting, and the bytes that it counted since its event was set.
+#[derive(Clone, Default)]
+struct Tally {
+    setting: u16,
+    total: Option<u128>,
+}
+
+impl Window {
+    fn open(setup: &Setup) -> Window {
+        Window { asked: vec![0; setup.pairs()], granted: vec![0; setup.pairs()], sum: 0 }
+    }
+}
+
+impl Ledger {
+    pub fn after_reset(setup: &Setup) -> Ledger {
+        let words = first_settings(setup);
+        Ledger {
+            setup: *setup,
+            bw_alloc: 0,
+            configured: words.clone(),
+            active: words,
+            accepted: vec![None; setup.pairs()],
+            window: Window::open(setup),
+            tallies: vec![Tally::default(); setup.nm as usize],
+        }
+    }
+
+    /// Follows one call; a refused one changes nothing.
+    pub fn observe(&mut self, call: &Call, answer: Answer) -> Result<(), String> {
+        if answer.refusal != 0 {
+            return Ok(());
+        }
+        match call {
+            Call::Reset(setup) => *self = Ledger::after_reset(setup),
+            Call::Read { size, offset } => return self.read(*size, *offset, answer.value),
+            Call::Write { size, offset, value } => self.write(*size, *offset, *value),
+            Call::Request(request) => self.request(request, answer.value),
+            Call::EndWindow => {
+                self.active = self.configured.clone();
+                self.window = Window::open(&self.setup);
+            }
+        }
+        Ok(())
+    }
+
+    /// A read of bw_alloc gives the ledger's.
+    fn read(&self, size: u64, offset: u64, value: u64) -> Result<(), String> {
+        if access::register(offset) != access::OPERAND {
+            return Ok(());
+        }
+        let expected = access::read_part(self.bw_alloc, access::part(size, offset));
+        claim(value == expected, || format!("bw_alloc read {value:#x}, not {expected:#x}"))
+    }
+
+    fn write(&mut self, size: u64, offset: u64, value: u64) {
+        if access::part(size, offset) == Part::High {
+            return;
+        }
+        match access::register(offset) {
+            access::OPERAND => self.bw_alloc = named_bits(value),
+            access::ALLOC_CTL => self.operate(alloc_ctl_fields(value, self.setup.na)),
+            access::MON_CTL => self.monitor(mon_ctl_fields(value, self.setup.na)),
+            _ => {}
+        }
+    }
+
+    /// An operation of alloc_ctl, its STATUS worked out over the ledger's words.
+    fn operate(&mut self, fields: u64) {
+        if alloc_status(&self.setup, &self.configured, self.bw_alloc, fields) != DONE {
+            return;
+        }
+        let place = self.setup.place(RCID.get(fields), AT.get(fields));
+        if OP.get(fields) == CONFIG_LIMIT {
+            self.configured[place] = stored_form(self.bw_alloc);
+            self.accepted[place] = Some(self.configured[place]);
+        } else {
+            self.bw_alloc = self.configured[place] as u64;
+        }
+    }
+
+    /// An operation of mon_ctl: a counter that is set to an event starts again at 0.
+    fn monitor(&mut self, fields: u64) {
+        let status = mon_status(fields, self.setup.na, self.setup.nm, LAST_EVENT);
+        if status != DONE || OP.get(fields) != CONFIG_EVENT {
+            return;
+        }
+        let tally = &mut self.tallies[MCID.get(fields) as usize];
+        tally.setting = setting_of(fields);
+        if EVT_ID.get(fields) != 0 {
+            tally.total = Some(0);
+        }
+    }
+
+    fn request(&mut self, request: &Request, granted: u64) {
+        let at = access_type(request.at, self.setup.na);
+        if let Some(place) = holder_of(&self.setup, &self.active, request.rcid, at) {
+            self.window.asked[place] += request.bytes as u64;
+            self.window.granted[place] += granted;
+        }
+        self.window.sum += granted;
+        let tally = &mut self.tallies[request.mcid as usize];
+        if counted(tally.setting, at, request.kind) {
+            tally.total = tally.total.map(|total| total + granted as u128);
+        }
+    }
+
+    /// All claims, after any call of the list.
+    pub fn check(&self, state: &State) -> Result<(), String> {
+        self.check_settings(state)?;
+        self.check_window()?;
+        self.check_counters(state)
+    }
+
+    fn check_settings(&self, state: &State) -> Result<(), String> {
+        claim(state.configured == self.configured, || "the configured table".into())?;
+        claim(state.active == self.active, || "the table in force".into())?;
+        let all = all_reserved(&state.configured);
+        claim(all <= self.setup.mrbwb, || format!("{all} blocks reserved of MRBWB"))?;
+        for (place, accepted) in self.accepted.iter().enumerate() {
+            let now = state.configured[place];
+            let text = || format!("setting {accepted:x?} at {place} reads back {now:#x}");
+            claim(accepted.map_or(true, |word| word == now), text)?;
+        }
+        Ok(())
+    }
+
+    fn check_window(&self) -> Result<(), String> {
+        let setup = &self.setup;
+        let pool = pool_size(setup, &self.active);
+        for (place, &word) in self.active.iter().enumerate() {
+            let (asked, granted) = (self.window.asked[place], self.window.granted[place]);
+            let reservation = reserved(word) * setup.q;
+            let least = reservation.min(asked);
+            let text = || {
+                format!("place {place}: asked {asked}, granted {granted}, reserved {reservation}")
+            };
+            claim(granted >= least, text)?;
+            claim(granted <= asked, text)?;
+            claim(granted <= reservation + pool, text)?;
+            claim(weight(word) != 0 || granted == least, text)?;
+        }
+        let (sum, all) = (self.window.sum, setup.nbwblks * setup.q);
+        claim(sum <= all, || format!("{sum} bytes granted of {all} in a window"))
+    }
+
+    /// A counter is the sum of its matching grants modulo 2^W, with OVF once that reached 2^W.
+    fn check_counters(&self, state: &State) -> Result<(), String> {
+        let limit = 1u128 << self.setup.w;
+        let expected = |total: u128| {
+            let overflow = if total >= limit { OVF.mask() } else { 0 };
+            overflow | CTR.place((total % limit) as u64)
+        };
+        for (mcid, tally) in self.tallies.iter().enumerate() {
+            let (word, total) = (state.counters[mcid], tally.total);
+            let text = || format!("counter {mcid} is {word:#x}, counted {total:?}");
+            claim(total.map_or(true, |total| word == expected(total)), text)?;
+        }
+        Ok(())
+    }
+}
+
+#[cfg(test)]
+mod tests {
+    use super::*;
+    use crate::model::bandwidth::{perform, table_lengths, RECORD_LENGTH};
+
+    const SETUP: Setup = Setup { nbwblks: 100, mrbwb: 80, nr: 4, na: 2, nm: 4, q: 64, w: 24 };
+
+    fn write(offset: u64, value: u64) -> Call {
+        Call::Write { size: 8, offset, value }
+    }
+
+    fn request(rcid: u64, bytes: u32) -> Call {
+        Call::Request(Request { rcid, mcid: 0, at: 0, kind: 0, bytes })
+    }
+
+    /// RCID 0 to 30 blocks with weight 1, RCID 1 to 20 with weight 0, in force; counter 0 counts all.
+    fn in_use() -> (State, Ledger) {
+        let (mut state, mut ledger) = (State::default(), Ledger::after_reset(&SETUP));
+        let calls = [
+            Call::Reset(SETUP),
+            write(32, 0x0010_001E),
+            write(24, 0x001),
+            write(32, 20),
+            write(24, 0x101),
+            write(8, 0x10_0001),
+            Call::EndWindow,
+        ];
+        for call in calls {
+            make(&mut state, &mut ledger, &call).unwrap();
+        }
+        (state, ledger)
+    }
+
+    fn lengths() -> Vec<usize> {
+        [RECORD_LENGTH].into_iter().chain(table_lengths(&SETUP)).collect()
+    }
+
+    fn make(state: &mut State, ledger: &mut Ledger, call: &Call) -> Result<(), String> {
+        let answer = perform(state, &lengths(), call);
+        ledger.observe(call, answer)?;
+        ledger.check(state)
+    }
+
+    /// What the claims say of a request that was granted these bytes, the state untouched.
+    fn claims_after(rcid: u64, asked: u32, granted: u64) -> Result<(), String> {
+        let (_, mut ledger) = in_use();
+        ledger.observe(&request(rcid, asked), Answer::value(granted))?;
+        ledger.check_window()
+    }
+
+    #[test]
+    fn grants_between_the_bounds() {
+        assert!(claims_after(0, 2_000, 1_919).is_err(), "less than the reservation");
+        assert!(claims_after(0, 2_000, 1_920).is_ok());
+        assert!(claims_after(0, 2_000, 2_000).is_ok());
+        assert!(claims_after(0, 2_000, 2_001).is_err(), "more than asked");
+        assert!(claims_after(0, 9_000, 5_120).is_ok(), "reservation and pool");
+        assert!(claims_after(0, 9_000, 5_121).is_err(), "others' reservation");
+        assert!(claims_after(0, 100, 0).is_err(), "nothing at all");
+    }
+
+    #[test]
+    fn weight_0_is_a_hard_limit() {
+        assert!(claims_after(1, 2_000, 1_280).is_ok());
+        assert!(claims_after(1, 2_000, 1_281).is_err());
+        assert!(claims_after(1, 2_000, 1_279).is_err());
+    }
+
+    #[test]
+    fn all_grants_fit_into_the_blocks() {
+        // an unset pair has no holder, but what it is given counts in the window's sum
+        assert!(claims_after(3, 6_400, 6_400).is_ok());
+        assert!(claims_after(3, 6_401, 6_401).is_err());
+    }
+
+    #[test]
+    fn settings_must_come_into_force_at_every_window_end() {
+        let (mut state, mut ledger) = in_use();
+        make(&mut state, &mut ledger, &write(32, 10)).unwrap();
+        make(&mut state, &mut ledger, &write(24, 0x101)).unwrap();
+        ledger.observe(&Call::EndWindow, Answer::value(0)).unwrap();
+        assert!(ledger.check(&state).is_err(), "the state has seen no window end");
+        perform(&mut state, &lengths(), &Call::EndWindow);
+        assert!(ledger.check(&state).is_ok());
+    }
+
+    #[test]
+    fn an_accepted_setting_must_stay() {
+        let (mut state, ledger) = in_use();
+        state.configured[2] = 19;
+        assert!(ledger.check(&state).is_err());
+    }
+
+    #[test]
+    fn reads_of_bw_alloc() {
+        let (_, mut ledger) = in_use();
+        let read = Call::Read { size: 8, offset: 32 };
+        assert!(ledger.observe(&read, Answer::value(20)).is_ok());
+        assert!(ledger.observe(&read, Answer::value(21)).is_err());
+    }
+
+    #[test]
+    fn counters_are_tied_to_grants() {
+        let (mut state, mut ledger) = in_use();
+        make(&mut state, &mut ledger, &request(0, 300)).unwrap();
+        assert_eq!(state.counters[0], 300);
+        state.counters[0] = 301;
+        assert!(ledger.check(&state).is_err());
+    }
+}

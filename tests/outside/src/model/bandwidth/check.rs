@@ -1,0 +1,175 @@
+//! The refusals of the bandwidth controller, in checking order.
+
+use super::request::{pool_size, CTR};
+use super::settings::{
+    all_reserved, bad_share, is_sharer, named_bits, reserved, shared_at, stored_form,
+};
+use super::{Call, Record, Setup, State, LAST_EVENT};
+use crate::model::access::{access_refusal, value_refusal};
+use crate::model::monitor::setting_well_formed;
+use crate::model::registers::{alloc_ctl_well_formed, mon_ctl_well_formed};
+
+/// The bytes of a record in the C interface: 12 words.
+pub const RECORD_LENGTH: usize = 96;
+
+/// The number of the first check that fails, or 0.
+pub fn refusal(state: &State, lengths: &[usize], call: &Call) -> u64 {
+    let (setup, is_reset) = match call {
+        Call::Reset(setup) => (setup, true),
+        _ => (&state.record.setup, false),
+    };
+    if lengths[0] != RECORD_LENGTH || !in_range(setup) {
+        return 1;
+    }
+    if lengths[1..] != table_lengths(setup) {
+        return 2;
+    }
+    if !is_reset && !well_formed(state) {
+        return 3;
+    }
+    argument_refusal(setup, call)
+}
+
+/// Refusals 4 to 7: those that go by the call's own arguments.
+fn argument_refusal(setup: &Setup, call: &Call) -> u64 {
+    match call {
+        Call::Read { size, offset } => access_refusal(*size, *offset),
+        Call::Write { size, offset, value } => match access_refusal(*size, *offset) {
+            0 => value_refusal(*size, *value),
+            number => number,
+        },
+        Call::Request(request) if request.rcid >= setup.nr || request.mcid >= setup.nm => 7,
+        _ => 0,
+    }
+}
+
+/// Whether every number of a set-up lies in its range.
+pub fn in_range(setup: &Setup) -> bool {
+    (1..=256).contains(&setup.nr)
+        && (1..=8).contains(&setup.na)
+        && (1..=256).contains(&setup.nm)
+        && (24..=62).contains(&setup.w)
+        && (1..=65_535).contains(&setup.nbwblks)
+        && (1..=setup.nbwblks).contains(&setup.mrbwb)
+        && (1..=65_536).contains(&setup.q)
+}
+
+/// The lengths of active, configured, used, counters and events in bytes.
+pub fn table_lengths(setup: &Setup) -> [usize; 5] {
+    let words = 4 * setup.pairs();
+    let nm = setup.nm as usize;
+    [words, words, words, 8 * nm, 2 * nm]
+}
+
+/// Document 01's "lawful": what the controller's own calls can leave, and no bit elsewhere.
+pub fn well_formed(state: &State) -> bool {
+    fault(state).is_none()
+}
+
+/// The first part of a state that is not well formed.
+pub fn fault(state: &State) -> Option<&'static str> {
+    let setup = &state.record.setup;
+    if !registers_well_formed(&state.record) {
+        Some("a register")
+    } else if !settings_well_formed(setup, &state.configured) {
+        Some("a configured setting")
+    } else if !settings_well_formed(setup, &state.active) {
+        Some("a setting in force")
+    } else if !used_well_formed(state) {
+        Some("used bytes")
+    } else if state.record.pool_given > pool_size(setup, &state.active) {
+        Some("the pool's bytes")
+    } else if state.counters.iter().any(|&word| CTR.get(word) >> setup.w != 0) {
+        Some("a counter")
+    } else if !state.events.iter().all(|&word| setting_well_formed(word, setup.na, LAST_EVENT)) {
+        Some("a counter setting")
+    } else {
+        None
+    }
+}
+
+/// Every bit of mon_ctr_val is in one of its fields, so any word is well formed there.
+fn registers_well_formed(record: &Record) -> bool {
+    let na = record.setup.na;
+    alloc_ctl_well_formed(record.alloc_ctl, na)
+        && mon_ctl_well_formed(record.mon_ctl, na)
+        && record.bw_alloc == named_bits(record.bw_alloc)
+}
+
+/// Whether a settings table meets the operand rules for every pair at once.
+pub fn settings_well_formed(setup: &Setup, words: &[u32]) -> bool {
+    let pairs = (0..setup.nr).flat_map(|rcid| (0..setup.na).map(move |at| (rcid, at)));
+    let each_pair = |(rcid, at): (u64, u64)| {
+        let word = words[setup.place(rcid, at)];
+        let operand_is_good = if is_sharer(word) {
+            !bad_share(setup, words, rcid, at, shared_at(word))
+        } else {
+            word == 0 || reserved(word) != 0
+        };
+        operand_is_good && word == stored_form(word as u64)
+    };
+    pairs.into_iter().all(each_pair) && all_reserved(words) <= setup.mrbwb
+}
+
+/// A holder in force used no more than it reserved, and nothing is used elsewhere.
+fn used_well_formed(state: &State) -> bool {
+    let limit = |word: u32| reserved(word) * state.record.setup.q;
+    state.active.iter().zip(&state.used).all(|(&word, &used)| used as u64 <= limit(word))
+}
+
+#[cfg(test)]
+mod tests {
+    use super::super::limits::bad_operand;
+    use super::*;
+    use crate::generator::Random;
+
+    const SETUP: Setup = Setup { nbwblks: 9, mrbwb: 6, nr: 2, na: 3, nm: 1, q: 4, w: 24 };
+
+    /// The paper's own words: the operand rules for every pair at once, unset pairs excepted,
+    /// with fields in their stored form.
+    fn every_pair_by_the_operand_rules(words: &[u32]) -> bool {
+        (0..SETUP.nr).all(|rcid| {
+            (0..SETUP.na).all(|at| {
+                let word = words[SETUP.place(rcid, at)] as u64;
+                let stored = stored_form(word) as u64 == word;
+                word == 0 || (stored && !bad_operand(&SETUP, words, rcid, at, word))
+            })
+        })
+    }
+
+    #[test]
+    fn one_sum_for_all_is_the_rule_for_each() {
+        let mut random = Random::new(7);
+        let mut good = 0;
+        for _ in 0..200_000 {
+            let words: Vec<u32> = (0..SETUP.pairs()).map(|_| any_word(&mut random)).collect();
+            let expected = every_pair_by_the_operand_rules(&words);
+            assert_eq!(settings_well_formed(&SETUP, &words), expected, "{words:x?}");
+            good += expected as u32;
+        }
+        assert!(good > 1_000, "{good} good tables");
+    }
+
+    fn any_word(random: &mut Random) -> u32 {
+        match random.below(20) {
+            0 => random.next() as u32,
+            1 => 0x0010_0000,
+            2 => 0x8000_0001,
+            3 => 0x1000_0001,
+            4..=8 => 0x8000_0000 | (random.below(4) as u32) << 28,
+            9..=13 => random.below(4) as u32,
+            _ => 0,
+        }
+    }
+
+    #[test]
+    fn a_word_with_only_a_weight() {
+        assert!(!settings_well_formed(&SETUP, &[0x0010_0000, 0, 0, 0, 0, 0]));
+    }
+
+    #[test]
+    fn all_of_mrbwb_and_one_more() {
+        assert!(settings_well_formed(&SETUP, &[1, 2, 0, 3, 0, 0]));
+        assert!(!settings_well_formed(&SETUP, &[1, 2, 0, 4, 0, 0]));
+    }
+}

@@ -1,0 +1,154 @@
+//! The bandwidth controller: set-up, state, calls, and one call's effect.
+
+mod check;
+mod limits;
+mod request;
+mod reset;
+pub mod settings;
+
+pub use check::{fault, in_range, table_lengths, well_formed, RECORD_LENGTH};
+pub use limits::alloc_status;
+pub use request::{counted, holder_of, pool_size, CTR, OVF};
+pub use reset::first_settings;
+
+use super::access::{self, Part};
+use super::monitor::{write_mon_ctl, Monitor};
+use super::registers::VERSION;
+use super::Answer;
+
+/// Bandwidth events: 0 none, 1 all bytes, 2 reads, 3 writes.
+pub const LAST_EVENT: u64 = 3;
+
+/// The numbers that a reset is given.
+#[derive(Clone, Copy, Debug, PartialEq, Eq, Default)]
+pub struct Setup {
+    pub nbwblks: u64,
+    pub mrbwb: u64,
+    pub nr: u64,
+    pub na: u64,
+    pub nm: u64,
+    /// The bytes that one block is worth in a window.
+    pub q: u64,
+    /// The width of a counter in bits.
+    pub w: u64,
+}
+
+impl Setup {
+    /// The number of pairs of RCID and AT.
+    pub fn pairs(&self) -> usize {
+        (self.nr * self.na) as usize
+    }
+
+    /// A pair's place in a table: the AT runs fastest.
+    pub fn place(&self, rcid: u64, at: u64) -> usize {
+        (rcid * self.na + at) as usize
+    }
+}
+
+/// The controller's record.
+#[derive(Clone, Copy, Debug, PartialEq, Eq, Default)]
+pub struct Record {
+    pub setup: Setup,
+    pub mon_ctl: u64,
+    pub mon_ctr_val: u64,
+    pub alloc_ctl: u64,
+    pub bw_alloc: u64,
+    /// The bytes that the pool gave in this window.
+    pub pool_given: u64,
+}
+
+/// The record and the lent tables.
+#[derive(Clone, Debug, PartialEq, Eq, Default)]
+pub struct State {
+    pub record: Record,
+    /// The settings in force.
+    pub active: Vec<u32>,
+    pub configured: Vec<u32>,
+    /// Bytes used of each holder's reservation in this window.
+    pub used: Vec<u32>,
+    pub counters: Vec<u64>,
+    pub events: Vec<u16>,
+}
+
+/// One call with its arguments.
+#[derive(Clone, Debug, PartialEq, Eq)]
+pub enum Call {
+    Reset(Setup),
+    Read { size: u64, offset: u64 },
+    Write { size: u64, offset: u64, value: u64 },
+    Request(Request),
+    EndWindow,
+}
+
+#[derive(Clone, Copy, Debug, PartialEq, Eq)]
+pub struct Request {
+    pub rcid: u64,
+    pub mcid: u64,
+    pub at: u64,
+    /// 0 is a read, any other number a write.
+    pub kind: u64,
+    pub bytes: u32,
+}
+
+/// Makes one call. `lengths` are those of the lent slices in bytes: record, then tables in order.
+pub fn perform(state: &mut State, lengths: &[usize], call: &Call) -> Answer {
+    let refusal = check::refusal(state, lengths, call);
+    if refusal != 0 {
+        return Answer::refused(refusal);
+    }
+    match call {
+        Call::Reset(setup) => *state = reset::after_reset(setup),
+        Call::Read { size, offset } => return Answer::value(read(&state.record, *size, *offset)),
+        Call::Write { size, offset, value } => write(state, *size, *offset, *value),
+        Call::Request(request) => return Answer::value(request::grant(state, request)),
+        Call::EndWindow => end_window(state),
+    }
+    Answer::value(0)
+}
+
+fn read(record: &Record, size: u64, offset: u64) -> u64 {
+    let word = match access::register(offset) {
+        access::CAPABILITIES => capabilities(&record.setup),
+        access::MON_CTL => record.mon_ctl,
+        access::MON_CTR_VAL => record.mon_ctr_val,
+        access::ALLOC_CTL => record.alloc_ctl,
+        _ => record.bw_alloc,
+    };
+    access::read_part(word, access::part(size, offset))
+}
+
+/// VER 7:0, NBWBLKS 23:8, MRBWB 47:32.
+fn capabilities(setup: &Setup) -> u64 {
+    VERSION | setup.nbwblks << 8 | setup.mrbwb << 32
+}
+
+fn write(state: &mut State, size: u64, offset: u64, value: u64) {
+    // no register here has a field to store in its high half alone
+    if access::part(size, offset) == Part::High {
+        return;
+    }
+    match access::register(offset) {
+        access::MON_CTL => state.record.mon_ctl = write_mon_ctl(value, &mut monitor(state)),
+        access::ALLOC_CTL => limits::write_alloc_ctl(state, value),
+        access::OPERAND => state.record.bw_alloc = settings::named_bits(value),
+        // capabilities and mon_ctr_val are read-only: accepted, and nothing happens
+        _ => {}
+    }
+}
+
+fn monitor(state: &mut State) -> Monitor<'_> {
+    Monitor {
+        na: state.record.setup.na,
+        nm: state.record.setup.nm,
+        last_event: LAST_EVENT,
+        counters: &mut state.counters,
+        events: &mut state.events,
+        mon_ctr_val: &mut state.record.mon_ctr_val,
+    }
+}
+
+fn end_window(state: &mut State) {
+    state.active = state.configured.clone();
+    state.used.fill(0);
+    state.record.pool_given = 0;
+}

@@ -1,0 +1,35 @@
+//! A model of document 01, written from the paper alone and apart from the proved code.
+//! It is meant to be plain, not fast: typed tables, one rule of the paper in one place.
+
+pub mod access;
+pub mod bandwidth;
+pub mod capacity;
+pub mod field;
+pub mod monitor;
+pub mod registers;
+
+/// What a call hands back: the refusal's number, 0 for none, and a value that is 0 after a refusal.
+#[derive(Clone, Copy, Debug, PartialEq, Eq)]
+pub struct Answer {
+    pub refusal: u64,
+    pub value: u64,
+}
+
+impl Answer {
+    pub fn refused(number: u64) -> Answer {
+        Answer { refusal: number, value: 0 }
+    }
+
+    pub fn value(value: u64) -> Answer {
+        Answer { refusal: 0, value }
+    }
+}
+
+/// The access type that a request or cache event counts as: one that does not exist is 0.
+pub fn access_type(at: u64, na: u64) -> u64 {
+    if at < na {
+        at
+    } else {
+        0
+    }
+}

@@ -1,0 +1,155 @@
+//! One list of calls, each made on the model and through the C interface, and compared.
+
+use crate::controller::Controller;
+use crate::coverage::Coverage;
+use crate::generator::{Change, Step};
+use crate::memory::Memory;
+use crate::model::Answer;
+
+pub struct Session<C: Controller> {
+    memory: Memory,
+    state: C::State,
+    /// None from a change of the memory by others until the next accepted reset.
+    ledger: Option<C::Ledger>,
+}
+
+impl<C: Controller> Session<C> {
+    /// A list begins with memory that is lent; an empty record stands for none.
+    pub fn new() -> Session<C> {
+        let contents = vec![Vec::new(); C::REGIONS.len()];
+        let state = C::state(&contents);
+        Session { memory: Memory::new(&contents, 0), state, ledger: None }
+    }
+
+    pub fn state(&self) -> &C::State {
+        &self.state
+    }
+
+    /// Whether the ledger follows the calls.
+    pub fn is_followed(&self) -> bool {
+        self.ledger.is_some()
+    }
+
+    pub fn lengths(&self) -> Vec<usize> {
+        self.memory.lengths()
+    }
+
+    /// Takes one step; the error says what differed.
+    pub fn take(&mut self, step: &Step<C::Call>, coverage: &mut Coverage) -> Result<(), String> {
+        match step {
+            Step::Call(call) => self.call(call, coverage).map(|_| ()),
+            Step::WrongLength { region, length, call } => {
+                self.call_with_length(*region, *length, call, coverage)
+            }
+            Step::Damaged { changes, call } => self.damaged_call(changes, call, coverage),
+            Step::Change(changes) => {
+                self.change(changes);
+                Ok(())
+            }
+            Step::Lend { contents, skew } => {
+                self.replace(Memory::new(contents, *skew));
+                Ok(())
+            }
+        }
+    }
+
+    /// Other memory, whose contents no call of the list has left.
+    fn replace(&mut self, memory: Memory) {
+        self.state = C::state(&memory.contents());
+        self.memory = memory;
+        self.ledger = None;
+    }
+
+    fn change(&mut self, changes: &[Change]) {
+        let mut memory = self.memory.clone();
+        changes.iter().for_each(|change| change.apply(&mut memory));
+        self.replace(memory);
+    }
+
+    fn call(&mut self, call: &C::Call, coverage: &mut Coverage) -> Result<Answer, String> {
+        let before = self.state.clone();
+        let contents = self.memory.contents();
+        let expected = C::on_model(&mut self.state, &self.memory.lengths(), call);
+        let got = C::on_library(&mut self.memory, call);
+        compare_answers(expected, got)?;
+        let contents = if expected.refusal == 0 { C::bytes(&self.state) } else { contents };
+        compare_memory::<C>(&contents, &self.memory)?;
+        C::follow(&mut self.ledger, call, got, &self.state)?;
+        coverage.calls += 1;
+        coverage.claimed += self.ledger.is_some() as u64;
+        coverage.note(C::labels(&before, call, got, &self.state));
+        Ok(got)
+    }
+
+    /// Lends one slice with another length for this call; if it is refused, the memory stays.
+    fn call_with_length(
+        &mut self,
+        region: usize,
+        length: usize,
+        call: &C::Call,
+        coverage: &mut Coverage,
+    ) -> Result<(), String> {
+        let kept = (self.memory.clone(), self.state.clone(), self.ledger.take());
+        self.replace(self.memory.with_length(region, length));
+        self.call_and_restore(kept, call, coverage)
+    }
+
+    /// Changes the memory for this call; if it is refused, the change is undone.
+    fn damaged_call(
+        &mut self,
+        changes: &[Change],
+        call: &C::Call,
+        coverage: &mut Coverage,
+    ) -> Result<(), String> {
+        let kept = (self.memory.clone(), self.state.clone(), self.ledger.take());
+        self.change(changes);
+        self.call_and_restore(kept, call, coverage)
+    }
+
+    fn call_and_restore(
+        &mut self,
+        kept: (Memory, C::State, Option<C::Ledger>),
+        call: &C::Call,
+        coverage: &mut Coverage,
+    ) -> Result<(), String> {
+        let answer = self.call(call, coverage)?;
+        if answer.refusal != 0 {
+            (self.memory, self.state, self.ledger) = kept;
+        }
+        Ok(())
+    }
+}
+
+fn compare_answers(expected: Answer, got: Answer) -> Result<(), String> {
+    if expected == got {
+        return Ok(());
+    }
+    Err(format!("the model answers {expected:x?}, the library {got:x?}"))
+}
+
+/// Every byte of the record and of every table, and the bytes around them.
+fn compare_memory<C: Controller>(expected: &[Vec<u8>], memory: &Memory) -> Result<(), String> {
+    if !memory.guards_are_intact() {
+        return Err("the library wrote outside its slices".into());
+    }
+    for (index, bytes) in expected.iter().enumerate() {
+        let got = memory.region(index);
+        if bytes == got {
+            continue;
+        }
+        let (name, width) = C::REGIONS[index];
+        let word = bytes.iter().zip(got).position(|(a, b)| a != b).unwrap_or(0) / width;
+        let part = word * width..(word + 1) * width;
+        return Err(format!(
+            "{name}, word {word}: the model has {}, the library {}",
+            hexadecimal(&bytes[part.clone()]),
+            hexadecimal(&got[part])
+        ));
+    }
+    Ok(())
+}
+
+/// A little-endian word, highest digit first.
+pub fn hexadecimal(bytes: &[u8]) -> String {
+    bytes.iter().rev().fold("0x".to_string(), |text, byte| text + &format!("{byte:02x}"))
+}
