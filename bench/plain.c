@@ -4,13 +4,18 @@
  * benchmark and a second opinion for tests. Compile with -DPREFIX=cbqri_ to
  * get the functions under the library's own names.
  *
- * tuned.c includes this file with OWN_TABLE_CHECKS defined and brings its own
- * bandwidth_tables_lawful and capacity_tables_lawful.
+ * tuned.c includes this file and has the tables checked by functions of its
+ * own, named by the two macros below.
  */
 #include "plain.h"
 
 #include <stdbool.h>
 #include <string.h>
+
+#ifndef BANDWIDTH_TABLES_LAWFUL
+#define BANDWIDTH_TABLES_LAWFUL bandwidth_tables_lawful
+#define CAPACITY_TABLES_LAWFUL capacity_tables_lawful
+#endif
 
 #if __BYTE_ORDER__ != __ORDER_LITTLE_ENDIAN__
 #error "loads and stores here are memcpy, so the host must be little-endian"
@@ -211,11 +216,9 @@ static bool pool_lawful(const struct bandwidth *b)
 
 /* Reads both settings tables, the used words, the counters and their settings,
  * and sets the two sums. */
-static bool bandwidth_tables_lawful(struct bandwidth *b);
+static bool BANDWIDTH_TABLES_LAWFUL(struct bandwidth *b);
 /* Reads the masks, the counters and their settings. */
-static bool capacity_tables_lawful(const struct capacity *c);
-
-#ifndef OWN_TABLE_CHECKS
+static bool CAPACITY_TABLES_LAWFUL(const struct capacity *c);
 
 static bool pair_lawful(const uint8_t *row, uint64_t na, uint64_t at)
 {
@@ -231,19 +234,27 @@ static bool pair_lawful(const uint8_t *row, uint64_t na, uint64_t at)
            is_holder(load32(row, target));
 }
 
+/* The rows of some RCIDs; adds their Rbwb to *sum. */
+static inline bool rows_lawful(const uint8_t *row, uint64_t rows, uint64_t na,
+                               uint64_t *sum)
+{
+    uint64_t total = 0;
+    for (uint64_t rcid = 0; rcid < rows; rcid++, row += 4 * na) {
+        for (uint64_t at = 0; at < na; at++) {
+            if (!pair_lawful(row, na, at))
+                return false;
+            total += load32(row, at) & RBWB; /* a sharer's is 0 */
+        }
+    }
+    *sum += total;
+    return true;
+}
+
 static bool settings_lawful(const uint8_t *table, const struct bandwidth_record *r,
                             uint64_t *sum)
 {
     *sum = 0;
-    for (uint64_t rcid = 0; rcid < r->nr; rcid++) {
-        const uint8_t *row = table + 4 * rcid * r->na;
-        for (uint64_t at = 0; at < r->na; at++) {
-            if (!pair_lawful(row, r->na, at))
-                return false;
-            *sum += load32(row, at) & RBWB; /* a sharer's is 0 */
-        }
-    }
-    return *sum <= r->mrbwb;
+    return rows_lawful(table, r->nr, r->na, sum) && *sum <= r->mrbwb;
 }
 
 static bool used_lawful(const struct bandwidth *b)
@@ -307,8 +318,6 @@ static bool capacity_tables_lawful(const struct capacity *c)
            events_lawful(&c->monitor);
 }
 
-#endif /* OWN_TABLE_CHECKS */
-
 /* Opening a controller: the checks every call makes */
 
 /* Check 2, and the pointers kept; the record is already in b->r. */
@@ -358,7 +367,7 @@ static uint64_t bandwidth_open(struct bandwidth *b, BANDWIDTH_SLICES())
     uint64_t refusal = bandwidth_attach(b, BANDWIDTH_PASSED);
     if (refusal)
         return refusal;
-    if (!bandwidth_registers_lawful(&b->r) || !bandwidth_tables_lawful(b) ||
+    if (!bandwidth_registers_lawful(&b->r) || !BANDWIDTH_TABLES_LAWFUL(b) ||
         !pool_lawful(b))
         return REFUSED_UNLAWFUL;
     return 0;
@@ -374,7 +383,7 @@ static uint64_t capacity_open(struct capacity *c, CAPACITY_SLICES())
     uint64_t refusal = capacity_attach(c, CAPACITY_PASSED);
     if (refusal)
         return refusal;
-    if (!capacity_registers_lawful(&c->r) || !capacity_tables_lawful(c))
+    if (!capacity_registers_lawful(&c->r) || !CAPACITY_TABLES_LAWFUL(c))
         return REFUSED_UNLAWFUL;
     return 0;
 }
