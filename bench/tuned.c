@@ -165,24 +165,21 @@ static bool part_lawful(const uint8_t *part, size_t rows, size_t na, uint64_t *s
     return rows_lawful(part + 16 * quarter, rows % 4, na, sum);
 }
 
-/* Q may be 2^16, so the product is taken with Q - 1, which has 16 bits. */
+/* Rbwb * Q is below 2^32 for every set-up. */
 static bool used_part_lawful(const uint8_t *restrict part,
-                             const uint8_t *restrict used, size_t n, uint64_t q)
+                             const uint8_t *restrict used, size_t n, uint32_t q)
 {
     uint32_t bad = 0;
-    uint16_t q_less_1 = (uint16_t)(q - 1);
-    for (size_t i = 0; i < n; i++) {
-        uint16_t rbwb = (uint16_t)load32(part, i);
-        uint32_t limit = (uint32_t)rbwb * q_less_1 + rbwb;
-        bad |= load32(used, i) > limit;
-    }
+    for (size_t i = 0; i < n; i++)
+        bad |= load32(used, i) > (load32(part, i) & RBWB) * q;
     return !bad;
 }
 
 static bool all_zero(const uint8_t *active, const uint8_t *configured,
                      const uint8_t *used, size_t n)
 {
-    return (any_word(active, n) | any_word(configured, n) | any_word(used, n)) == 0;
+    return load32(active, 0) == 0 && any_word(active, n) == 0 &&
+           any_word(configured, n) == 0 && any_word(used, n) == 0;
 }
 
 /* The rows from the given first one, in all three tables. */
@@ -195,7 +192,8 @@ static bool rows_in_tables_lawful(struct bandwidth *b, size_t first, size_t rows
     uint64_t sum = 0;
     if (all_zero(active, configured, used, n))
         return true;
-    if (!part_lawful(active, rows, na, &sum) || !used_part_lawful(active, used, n, b->r.q))
+    if (!part_lawful(active, rows, na, &sum) ||
+        !used_part_lawful(active, used, n, (uint32_t)b->r.q))
         return false;
     b->active_sum += sum;
     if (memcmp(active, configured, 4 * n) == 0)
