@@ -5,7 +5,8 @@
  *
  * plain.c and tuned.c are compiled by gcc and, with -DWITH_CLANG, by clang
  * too, both with -O3 for baseline x86-64; the better one counts and is named.
- * Each number is the median of several repetitions, which take turns. All
+ * Each number is the median of several repetitions, in which the versions take
+ * turns; a ratio is the median of the ratios within each repetition. All
  * versions must give the same answers and leave the same bytes.
  *
  *     bench [repetitions] [milliseconds for each]
@@ -286,10 +287,21 @@ static int by_size(const void *a, const void *b)
     return (x > y) - (x < y);
 }
 
-static double median(double *times, int count)
+static double median(const double *numbers, int count)
 {
-    qsort(times, (size_t)count, sizeof *times, by_size);
-    return times[count / 2];
+    double sorted[MOST_REPETITIONS];
+    memcpy(sorted, numbers, (size_t)count * sizeof *sorted);
+    qsort(sorted, (size_t)count, sizeof *sorted, by_size);
+    return sorted[count / 2];
+}
+
+/* The median of the ratios within each repetition. */
+static double ratio(const double *above, const double *below, int count)
+{
+    double ratios[MOST_REPETITIONS];
+    for (int i = 0; i < count; i++)
+        ratios[i] = above[i] / below[i];
+    return median(ratios, count);
 }
 
 /* ns per call of n calls from the start state; keeps what they answer. */
@@ -328,6 +340,7 @@ static uint64_t calibrate(const struct measured *m, double milliseconds)
 struct row {
     double ns[VERSIONS], reading;
     int best[GROUPS];
+    double to[GROUPS]; /* the library's time to the best of the group */
 };
 
 static void check_same(uint64_t sum, uint64_t *first_sum, int first, const char *name)
@@ -342,11 +355,11 @@ static void check_same(uint64_t sum, uint64_t *first_sum, int first, const char 
     }
 }
 
-static struct row measure(const struct measured *m, int repetitions, double milliseconds)
+static double times[VERSIONS + 1][MOST_REPETITIONS]; /* the last is reading */
+
+static void take_times(const struct measured *m, int repetitions, double milliseconds)
 {
-    static double times[VERSIONS + 1][MOST_REPETITIONS];
     uint64_t n = calibrate(m, milliseconds), sum, first_sum = 0;
-    struct row row = {.best = {-1, -1, -1}};
     for (int r = 0; r < repetitions; r++) {
         for (int turn = 0; turn < VERSIONS; turn++) {
             int v = (r + turn) % VERSIONS;
@@ -355,11 +368,20 @@ static struct row measure(const struct measured *m, int repetitions, double mill
         }
         times[VERSIONS][r] = time_reading(m->bandwidth, n);
     }
+}
+
+static struct row measure(const struct measured *m, int repetitions, double milliseconds)
+{
+    struct row row = {.to = {0, 0, 0}};
+    take_times(m, repetitions, milliseconds);
     for (int v = 0; v < VERSIONS; v++) {
-        int *best = &row.best[versions[v].group];
+        enum group g = versions[v].group;
+        double to = ratio(times[LIBRARY], times[v], repetitions);
         row.ns[v] = median(times[v], repetitions);
-        if (*best < 0 || row.ns[v] < row.ns[*best])
-            *best = v;
+        if (to > row.to[g]) {
+            row.to[g] = to;
+            row.best[g] = v;
+        }
     }
     row.reading = median(times[VERSIONS], repetitions);
     return row;
@@ -367,19 +389,16 @@ static struct row measure(const struct measured *m, int repetitions, double mill
 
 /* The table */
 
-static double print_row(const struct measured *m, const struct setup *s, const char *state,
-                        const struct row *row)
+static void print_row(const struct measured *m, const struct setup *s, const char *state,
+                      const struct row *row)
 {
-    double library = row->ns[LIBRARY];
     int plain = row->best[PLAIN], tuned = row->best[TUNED];
     char pairs[16];
     snprintf(pairs, sizeof pairs, "%" PRIu64 " x %" PRIu64, s->nr, s->na);
     printf("%-19s %-7s %4" PRIu64 " %-6s %9.1f %9.1f %-5s %9.1f %-5s %9.1f %7.2f %7.2f\n", m->name,
-           pairs, s->nm, state, library, row->ns[plain], versions[plain].f.name, row->ns[tuned],
-           versions[tuned].f.name, row->reading, library / row->ns[plain],
-           library / row->ns[tuned]);
+           pairs, s->nm, state, row->ns[LIBRARY], row->ns[plain], versions[plain].f.name,
+           row->ns[tuned], versions[tuned].f.name, row->reading, row->to[PLAIN], row->to[TUNED]);
     fflush(stdout);
-    return library / row->ns[plain];
 }
 
 static double bench_state(const struct setup *s, int mixed, int repetitions, double milliseconds)
@@ -393,8 +412,8 @@ static double bench_state(const struct setup *s, int mixed, int repetitions, dou
     make_list(s, mixed);
     for (int i = 0; i < MEASURED; i++) {
         struct row row = measure(&measured[i], repetitions, milliseconds);
-        double ratio = print_row(&measured[i], s, mixed ? "mixed" : "reset", &row);
-        worst = ratio > worst ? ratio : worst;
+        print_row(&measured[i], s, mixed ? "mixed" : "reset", &row);
+        worst = row.to[PLAIN] > worst ? row.to[PLAIN] : worst;
     }
     return worst;
 }
@@ -414,8 +433,8 @@ int main(int argc, char **argv)
            "state", "cbqri", "plain", "", "tuned", "", "read all", "/plain", "/tuned");
     for (int i = 0; i < 3; i++) {
         for (int mixed = 1; mixed >= 0; mixed--) {
-            double ratio = bench_state(&setups[i], mixed, repetitions, milliseconds);
-            worst = ratio > worst ? ratio : worst;
+            double here = bench_state(&setups[i], mixed, repetitions, milliseconds);
+            worst = here > worst ? here : worst;
         }
     }
     if (bench_core)
