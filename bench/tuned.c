@@ -19,50 +19,33 @@
 
 enum {
     PART = 128, /* words of a part, at most */
-    QUARTER = PART / 4,
-    PAD = 16,   /* bytes that spreading reads behind a part */
     SMALL = 32  /* tables up to this many pairs are read the plain way */
 };
 
-/* A pair's byte: sharedAT in bits 2:0, useShared 3, and 4 for Rbwb 0. */
-enum { PAIR_NO_RBWB = 0x10 };
-
-/* What the words of a part amount to; bad is 0 if each is well-formed but for
- * sharedAT without useShared, which rows_bad finds. */
+/* What the words of a part amount to. */
 struct gathered {
     uint32_t any, bad, sum;
 };
 
-/* Gathers one word and returns its pair's byte. Rbwb 0 leaves sharedAT and
- * useShared at most; another Rbwb excludes both. */
-static inline uint32_t gather(struct gathered *g, uint32_t word)
+/* Rbwb 0 leaves sharedAT and useShared at most; another Rbwb excludes both.
+ * What remains to be seen from any: unnamed bits, and whether there are sharers
+ * or a sharedAT without useShared. */
+static struct gathered gather(const uint8_t *part, size_t n)
 {
-    uint32_t rbwb = word & RBWB;
-    uint32_t no_rbwb = rbwb == 0 ? UINT32_MAX : 0;
-    g->any |= word;
-    g->bad |= word & (no_rbwb ^ (USE_SHARED | SHARED_AT));
-    g->sum += rbwb;
-    return word >> SHARED_AT_LOW | (no_rbwb & PAIR_NO_RBWB);
-}
-
-/* Reads a part as four equal stretches of whole rows, side by side: pair i of
- * stretch s goes to byte s of pairs[i]. */
-static struct gathered gather_part(const uint8_t *restrict part, size_t quarter,
-                                   uint32_t *restrict pairs)
-{
-    struct gathered g = {0, 0, 0};
-    for (size_t i = 0; i < quarter; i++) {
-        uint32_t p0 = gather(&g, load32(part, i));
-        uint32_t p1 = gather(&g, load32(part, quarter + i));
-        uint32_t p2 = gather(&g, load32(part, 2 * quarter + i));
-        uint32_t p3 = gather(&g, load32(part, 3 * quarter + i));
-        pairs[i] = p0 | p1 << 8 | p2 << 16 | p3 << 24;
+    uint32_t any = 0, bad = 0, sum = 0;
+    for (size_t i = 0; i < n; i++) {
+        uint32_t word = load32(part, i);
+        uint32_t rbwb = word & RBWB;
+        uint32_t no_rbwb = rbwb == 0 ? UINT32_MAX : 0;
+        any |= word;
+        bad |= word & (no_rbwb ^ (USE_SHARED | SHARED_AT));
+        sum += rbwb;
     }
-    return g;
+    return (struct gathered){any, bad, sum};
 }
 
-/* at_bits[NA - 1][i]: bit AT in each byte, where AT is i modulo NA. */
-#define B(at) (UINT32_C(0x01010101) << (at))
+/* holder_bits[NA - 1][i]: bit 24 + AT, where AT is i modulo NA. */
+#define B(at) (UINT32_C(1) << (24 + (at)))
 #define AT2 B(0), B(1)
 #define AT3 AT2, B(2)
 #define AT4 AT3, B(3)
@@ -73,74 +56,74 @@ static struct gathered gather_part(const uint8_t *restrict part, size_t quarter,
 #define TWICE(...) __VA_ARGS__, __VA_ARGS__
 #define FOUR(...) TWICE(TWICE(__VA_ARGS__))
 #define EIGHT(...) TWICE(FOUR(__VA_ARGS__))
-static const uint32_t at_bits[8][QUARTER] = {
-    {FOUR(EIGHT(B(0)))},         {TWICE(EIGHT(AT2))},
-    {EIGHT(AT3), TWICE(AT3)},    {EIGHT(AT4)},
-    {FOUR(AT5), TWICE(AT5)},     {FOUR(AT6), AT6},
-    {FOUR(AT7)},                 {FOUR(AT8)},
+static const uint32_t holder_bits[8][PART] = {
+    {FOUR(FOUR(EIGHT(B(0))))},
+    {EIGHT(EIGHT(AT2))},
+    {FOUR(EIGHT(AT3)), EIGHT(AT3), TWICE(AT3)},
+    {FOUR(EIGHT(AT4))},
+    {TWICE(EIGHT(AT5)), EIGHT(AT5), AT5},
+    {TWICE(EIGHT(AT6)), FOUR(AT6), AT6},
+    {TWICE(EIGHT(AT7)), TWICE(AT7)},
+    {TWICE(EIGHT(AT8))},
 };
 
-/* For each pair the bit of the AT it shares, and its own AT's bit if it is a
- * holder. Returns 0 unless a pair has a sharedAT without useShared. */
-static uint8_t mark(size_t n, const uint8_t *restrict pairs,
-                    const uint8_t *restrict bits, uint8_t *restrict shared,
-                    uint8_t *restrict holders)
+/* 1 << (word >> 28) for a well-formed word, as vectors have no such shift: the
+ * four bits become the exponent of a float from 1 to below 65,536. */
+static inline uint32_t top_bits_to_bit(uint32_t word)
 {
-    uint8_t bad = 0;
+    uint32_t bits = (word >> 5) + UINT32_C(0x3f800000);
+    float number;
+    memcpy(&number, &bits, sizeof number);
+    return (uint32_t)(int32_t)number;
+}
+
+/* For each pair: bit 0 if it is no sharer, bit 8 + sharedAT if it is one, bits
+ * 1 to 7 for a sharedAT without useShared; and bit 24 + AT for a holder. */
+static void mark(const uint8_t *restrict part, size_t n, const uint32_t *restrict bits,
+                 uint32_t *restrict marks)
+{
     for (size_t i = 0; i < n; i++) {
-        uint8_t pair = pairs[i];
-        uint8_t bit0 = (uint8_t) - (pair & 1);
-        uint8_t bit1 = (uint8_t) - (pair >> 1 & 1);
-        uint8_t bit2 = (uint8_t) - (pair >> 2 & 1);
-        uint8_t sharer = (uint8_t) - (pair >> 3 & 1);
-        uint8_t no_rbwb = (uint8_t) - (pair >> 4 & 1);
-        /* 1 << sharedAT, by its three bits */
-        shared[i] = (0x55 ^ bit0) & (0x33 ^ bit1) & (0x0f ^ bit2) & sharer;
-        holders[i] = bits[i] & (uint8_t)~no_rbwb;
-        bad |= pair & 7 & (uint8_t)~sharer;
+        uint32_t word = load32(part, i);
+        uint32_t holder = (word & RBWB) == 0 ? 0 : UINT32_MAX;
+        marks[i] = top_bits_to_bit(word) | (bits[i] & holder);
+    }
+}
+
+/* Not 0 if in some row an AT is shared that is no holder, or a pair has a
+ * sharedAT without useShared. */
+static inline uint32_t rows_bad(const uint32_t *marks, size_t rows, size_t na)
+{
+    uint32_t bad = 0;
+    for (size_t row = 0; row < rows; row++) {
+        uint32_t all = 0;
+        for (size_t at = 0; at < na; at++)
+            all |= marks[row * na + at];
+        bad |= all & 0xfffe & ~(all >> 16);
     }
     return bad;
 }
 
-static void spread(size_t n, size_t by, const uint8_t *restrict from,
-                   uint8_t *restrict to)
+/* The same with NA known to the compiler. */
+static uint32_t shared_bad(const uint32_t *marks, size_t rows, size_t na)
 {
-    for (size_t i = 0; i < n; i++)
-        to[i] = from[i] | from[i + by];
-}
-
-/* At a row's first pair: ATs shared there, spread over by, that no holder has. */
-static uint8_t unheld(size_t n, size_t by, const uint8_t *restrict shared,
-                      const uint8_t *restrict holders, const uint8_t *restrict bits)
-{
-    uint8_t bad = 0;
-    for (size_t i = 0; i < n; i++) {
-        uint8_t first = (uint8_t) - (bits[i] & 1);
-        bad |= (shared[i] | shared[i + by]) & ~(holders[i] | holders[i + by]) & first;
+    switch (na) {
+    case 1:
+        return rows_bad(marks, rows, 1);
+    case 2:
+        return rows_bad(marks, rows, 2);
+    case 3:
+        return rows_bad(marks, rows, 3);
+    case 4:
+        return rows_bad(marks, rows, 4);
+    case 5:
+        return rows_bad(marks, rows, 5);
+    case 6:
+        return rows_bad(marks, rows, 6);
+    case 7:
+        return rows_bad(marks, rows, 7);
+    default:
+        return rows_bad(marks, rows, 8);
     }
-    return bad;
-}
-
-/* Not 0 if in some row an AT is shared that is no holder. Spreading by 1, 2
- * and the rest of NA brings each row together at its first pair; a neighbour
- * in the row is four bytes away. */
-static uint8_t rows_bad(size_t quarter, size_t na, const uint32_t *pairs)
-{
-    uint8_t shared[2][PART + PAD], holders[2][PART + PAD];
-    const uint8_t *bits = (const uint8_t *)at_bits[na - 1];
-    size_t n = 4 * quarter, now = 0, reach = 1;
-    uint8_t bad = mark(n, (const uint8_t *)pairs, bits, shared[0], holders[0]);
-    memset(shared[0] + n, 0, PAD);
-    memset(holders[0] + n, 0, PAD);
-    while (2 * reach < na) {
-        spread(n, 4 * reach, shared[now], shared[!now]);
-        spread(n, 4 * reach, holders[now], holders[!now]);
-        now = !now;
-        memset(shared[now] + n, 0, PAD);
-        memset(holders[now] + n, 0, PAD);
-        reach *= 2;
-    }
-    return bad | unheld(n, 4 * (na - reach), shared[now], holders[now], bits);
 }
 
 static uint32_t any_word(const uint8_t *table, size_t n)
@@ -154,15 +137,15 @@ static uint32_t any_word(const uint8_t *table, size_t n)
 /* Whether the part's rows are lawful; adds their Rbwb to *sum. */
 static bool part_lawful(const uint8_t *part, size_t rows, size_t na, uint64_t *sum)
 {
-    uint32_t pairs[QUARTER];
-    size_t quarter = rows / 4 * na;
-    struct gathered g = gather_part(part, quarter, pairs);
+    uint32_t marks[PART];
+    struct gathered g = gather(part, rows * na);
     *sum += g.sum;
     if (g.bad || (g.any & ~SETTING))
         return false;
-    if ((g.any & (USE_SHARED | SHARED_AT)) && rows_bad(quarter, na, pairs))
-        return false;
-    return rows_lawful(part + 16 * quarter, rows % 4, na, sum);
+    if (!(g.any & (USE_SHARED | SHARED_AT)))
+        return true;
+    mark(part, rows * na, holder_bits[na - 1], marks);
+    return shared_bad(marks, rows, na) == 0;
 }
 
 /* Rbwb * Q is below 2^32 for every set-up. */
@@ -205,7 +188,7 @@ static bool rows_in_tables_lawful(struct bandwidth *b, size_t first, size_t rows
 
 static bool settings_and_used_lawful(struct bandwidth *b)
 {
-    size_t rows = PART / b->r.na / 4 * 4;
+    size_t rows = PART / b->r.na;
     b->active_sum = 0;
     b->configured_sum = 0;
     for (size_t first = 0; first < b->r.nr; first += rows) {
