@@ -234,27 +234,20 @@ static bool pair_lawful(const uint8_t *row, uint64_t na, uint64_t at)
            is_holder(load32(row, target));
 }
 
-/* The rows of some RCIDs; adds their Rbwb to *sum. */
-static inline bool rows_lawful(const uint8_t *row, uint64_t rows, uint64_t na,
-                               uint64_t *sum)
+static bool settings_lawful(const uint8_t *table, const struct bandwidth_record *r,
+                            uint64_t *sum)
 {
     uint64_t total = 0;
-    for (uint64_t rcid = 0; rcid < rows; rcid++, row += 4 * na) {
-        for (uint64_t at = 0; at < na; at++) {
-            if (!pair_lawful(row, na, at))
+    for (uint64_t rcid = 0; rcid < r->nr; rcid++) {
+        const uint8_t *row = table + 4 * rcid * r->na;
+        for (uint64_t at = 0; at < r->na; at++) {
+            if (!pair_lawful(row, r->na, at))
                 return false;
             total += load32(row, at) & RBWB; /* a sharer's is 0 */
         }
     }
-    *sum += total;
-    return true;
-}
-
-static bool settings_lawful(const uint8_t *table, const struct bandwidth_record *r,
-                            uint64_t *sum)
-{
-    *sum = 0;
-    return rows_lawful(table, r->nr, r->na, sum) && *sum <= r->mrbwb;
+    *sum = total;
+    return total <= r->mrbwb;
 }
 
 static bool used_lawful(const struct bandwidth *b)

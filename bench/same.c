@@ -266,7 +266,8 @@ static void random_access(struct call *c, const struct setup *s, int bandwidth)
 
 static struct call random_call(const struct setup *s, int bandwidth)
 {
-    struct call c = {.kind = PICK(READ, WRITE, WRITE, WRITE, REQUEST, REQUEST, END_WINDOW)};
+    struct call c = {0};
+    c.kind = (enum kind)PICK(READ, WRITE, WRITE, WRITE, REQUEST, REQUEST, END_WINDOW);
     if (one_in(50))
         c.kind = RESET;
     c.setup = *s;
