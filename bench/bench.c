@@ -1,0 +1,444 @@
+/*
+ * Benchmark: the library beside plain.c and tuned.c, in one run on the same
+ * inputs. Every call reads all tables (check 3), so "read all" is the lower
+ * bound: the time to read record and tables once, adding up their words.
+ *
+ * plain.c and tuned.c are compiled by gcc and, with -DWITH_CLANG, by clang
+ * too, both with -O3 for baseline x86-64; the better one counts and is named.
+ * Each number is the median of several repetitions, in which the versions take
+ * turns; a ratio is the median of the ratios within each repetition. All
+ * versions must give the same answers and leave the same bytes.
+ *
+ *     bench [repetitions] [milliseconds for each]
+ */
+#define _POSIX_C_SOURCE 200809L
+#include "interface.h"
+
+#include <inttypes.h>
+#include <stdio.h>
+#include <stdlib.h>
+#include <string.h>
+#include <time.h>
+
+#include "../include/cbqri.h"
+
+#define PREFIX plain_gcc_
+#include "plain.h"
+#undef PREFIX
+#define PREFIX tuned_gcc_
+#include "plain.h"
+#undef PREFIX
+#ifdef WITH_CLANG
+#define PREFIX plain_clang_
+#include "plain.h"
+#undef PREFIX
+#define PREFIX tuned_clang_
+#include "plain.h"
+#undef PREFIX
+#endif
+
+enum group { LIBRARY, PLAIN, TUNED, GROUPS };
+
+static const struct {
+    enum group group;
+    struct interface f; /* its name is the compiler's */
+} versions[] = {
+    {LIBRARY, INTERFACE("", cbqri_)},
+    {PLAIN, INTERFACE("gcc", plain_gcc_)},
+    {TUNED, INTERFACE("gcc", tuned_gcc_)},
+#ifdef WITH_CLANG
+    {PLAIN, INTERFACE("clang", plain_clang_)},
+    {TUNED, INTERFACE("clang", tuned_clang_)},
+#endif
+};
+enum { VERSIONS = sizeof versions / sizeof versions[0], MOST_REPETITIONS = 99, CALLS = 256 };
+
+/* The optional second part: an object that also measures the proved functions
+ * on typed tables, without bytes, may define this; it prints its own lines. */
+extern void bench_core(void) __attribute__((weak));
+
+/* Inputs */
+
+struct setup {
+    uint64_t nr, na, nm;
+};
+
+enum { NBWBLKS = 60000, MRBWB = 50000, Q = 65536, W = 40, NCBLKS = 48 };
+#define BLOCKS (UINT64_MAX >> (64 - NCBLKS))
+
+/* Arguments of a call; which is the kind of a request or the block. */
+struct arguments {
+    uint64_t rcid, mcid, at, which, ctl;
+    uint32_t bytes;
+};
+
+/* Everything a call works on. */
+struct state {
+    struct bandwidth_buffers bandwidth;
+    struct capacity_buffers capacity;
+};
+
+static struct state start, now, first_end;
+static struct arguments list[CALLS];
+static uint64_t seed;
+
+static uint64_t upto(uint64_t below)
+{
+    return next_random(&seed) % below;
+}
+
+static void must(uint64_t refusal, const char *what)
+{
+    if (refusal == 0)
+        return;
+    printf("%s was refused: %" PRIu64 "\n", what, refusal);
+    exit(1);
+}
+
+static void state_after_reset(const struct setup *s)
+{
+    memset(&start, 0, sizeof start);
+    bandwidth_lengths(&start.bandwidth, s->nr, s->na, s->nm);
+    capacity_lengths(&start.capacity, s->nr, s->na, s->nm);
+    must(cbqri_bandwidth_reset(NBWBLKS, MRBWB, s->nr, s->na, s->nm, Q, W,
+                               BANDWIDTH_OF(&start.bandwidth)), "reset");
+    must(cbqri_capacity_reset(NCBLKS, s->nr, s->na, s->nm, W, CAPACITY_OF(&start.capacity)),
+         "reset");
+}
+
+/* AT 0 holds; of the others about two thirds hold, one in six shares AT 0 and
+ * one in six is not set. Each third holder has no weight. */
+static uint64_t mixed_setting(uint64_t at)
+{
+    uint64_t kind = at == 0 ? 0 : upto(6);
+    if (kind == 4)
+        return cbqri_sharer(0);
+    return kind == 5 ? 0 : cbqri_holder(1 + upto(20), upto(3));
+}
+
+static void mixed_monitor(uint8_t *counters, uint8_t *events, const struct setup *s,
+                          uint64_t last_event)
+{
+    for (uint64_t i = 0; i < s->nm; i++) {
+        uint64_t at = s->na > 1 && upto(4) == 0 ? 0x800 | upto(s->na) << 8 : 0;
+        put_word(events, i, 2, upto(8) ? (1 + upto(last_event)) | at : 0);
+        put_word(counters, i, 8, (UINT64_C(1) << (W - 1)) + upto(1000000));
+    }
+}
+
+/* Holders, sharers and unset pairs; half of the holders have used something;
+ * two RCIDs are configured anew since the last window end. */
+static void state_mixed(const struct setup *s)
+{
+    struct bandwidth_buffers *b = &start.bandwidth;
+    struct capacity_buffers *c = &start.capacity;
+    state_after_reset(s);
+    for (uint64_t i = 0; i < s->nr * s->na; i++) {
+        uint64_t word = mixed_setting(i % s->na);
+        put_word(b->active, i, 4, word);
+        put_word(b->configured, i, 4, word);
+        if ((word & 0xffff) && upto(2))
+            put_word(b->used, i, 4, upto(Q / 2));
+        put_word(c->masks, i, 8, upto(4) ? next_random(&seed) & BLOCKS : 0);
+    }
+    for (int i = 0; i < 2; i++)
+        put_word(b->configured, upto(s->nr) * s->na, 4, cbqri_holder(21 + upto(4), 1));
+    put_word(b->record, 11, 8, 12345);
+    mixed_monitor(b->counters, b->events, s, 3);
+    mixed_monitor(c->counters, c->events, s, 1);
+    must(cbqri_bandwidth_write(BANDWIDTH_OF(b), 8, CBQRI_ALLOC_CTL, 2), "state");
+}
+
+/* Small requests, so that reservations last; CONFIG_LIMIT goes round 8 RCIDs
+ * at most, AT 0, so that the tables keep their mixture. */
+static void make_list(const struct setup *s, int mixed)
+{
+    uint64_t some = mixed ? (s->nr < 8 ? s->nr : 8) : 1;
+    for (int i = 0; i < CALLS; i++) {
+        uint64_t rcid = upto(some) * (s->nr / (s->nr < 8 ? s->nr : 8));
+        list[i] = (struct arguments){
+            .rcid = upto(s->nr), .mcid = upto(s->nm), .at = upto(s->na),
+            .which = upto(2), .bytes = (uint32_t)upto(64),
+            .ctl = cbqri_alloc_ctl(CBQRI_CONFIG_LIMIT, 0, rcid)};
+    }
+}
+
+/* The measured calls: n of each, with everything they answer added up. */
+
+static uint64_t run_request(const struct interface *f, uint64_t n)
+{
+    uint64_t sum = 0, granted;
+    for (uint64_t i = 0; i < n; i++) {
+        const struct arguments *a = &list[i % CALLS];
+        sum += f->bandwidth_request(BANDWIDTH_OF(&now.bandwidth), a->rcid, a->mcid, a->at,
+                                    a->which, a->bytes, &granted) << 40;
+        sum += granted;
+    }
+    return sum;
+}
+
+static uint64_t run_config_limit(const struct interface *f, uint64_t n)
+{
+    uint64_t sum = 0;
+    must(f->bandwidth_write(BANDWIDTH_OF(&now.bandwidth), 8, CBQRI_BW_ALLOC, cbqri_holder(3, 1)),
+         "operand");
+    for (uint64_t i = 0; i < n; i++)
+        sum += f->bandwidth_write(BANDWIDTH_OF(&now.bandwidth), 8, CBQRI_ALLOC_CTL,
+                                  list[i % CALLS].ctl);
+    return sum << 40;
+}
+
+static uint64_t run_read(const struct interface *f, uint64_t n)
+{
+    uint64_t sum = 0, value;
+    for (uint64_t i = 0; i < n; i++) {
+        sum += f->bandwidth_read(BANDWIDTH_OF(&now.bandwidth), 8, CBQRI_BW_ALLOC, &value) << 40;
+        sum += value;
+    }
+    return sum;
+}
+
+static uint64_t run_end_window(const struct interface *f, uint64_t n)
+{
+    uint64_t sum = 0;
+    for (uint64_t i = 0; i < n; i++)
+        sum += f->bandwidth_end_window(BANDWIDTH_OF(&now.bandwidth));
+    return sum << 40;
+}
+
+static uint64_t run_fill(const struct interface *f, uint64_t n)
+{
+    uint64_t sum = 0, allowed;
+    for (uint64_t i = 0; i < n; i++) {
+        const struct arguments *a = &list[i % CALLS];
+        sum += f->capacity_fill(CAPACITY_OF(&now.capacity), a->rcid, a->mcid, a->at,
+                                a->bytes % NCBLKS, &allowed) << 40;
+        sum += allowed;
+    }
+    return sum;
+}
+
+static uint64_t run_evict(const struct interface *f, uint64_t n)
+{
+    uint64_t sum = 0;
+    for (uint64_t i = 0; i < n; i++) {
+        const struct arguments *a = &list[i % CALLS];
+        sum += f->capacity_evict(CAPACITY_OF(&now.capacity), a->rcid, a->mcid, a->at,
+                                 a->bytes % NCBLKS);
+    }
+    return sum << 40;
+}
+
+static const struct measured {
+    const char *name;
+    uint64_t (*run)(const struct interface *f, uint64_t n);
+    int bandwidth;
+} measured[] = {
+    {"request", run_request, 1},       {"CONFIG_LIMIT write", run_config_limit, 1},
+    {"read bw_alloc", run_read, 1},    {"window end", run_end_window, 1},
+    {"fill", run_fill, 0},             {"evict", run_evict, 0},
+};
+enum { MEASURED = sizeof measured / sizeof measured[0] };
+
+/* The lower bound */
+
+/* Four sums side by side, so that adding does not hold up reading. */
+static uint64_t sum_words(const uint8_t *bytes, size_t length)
+{
+    uint64_t sum[4] = {0, 0, 0, 0}, word[4];
+    size_t i = 0;
+    for (; i + 32 <= length; i += 32) {
+        memcpy(word, bytes + i, 32);
+        for (int k = 0; k < 4; k++)
+            sum[k] += word[k];
+    }
+    for (; i + 8 <= length; i += 8) {
+        memcpy(word, bytes + i, 8);
+        sum[0] += word[0];
+    }
+    return sum[0] + sum[1] + sum[2] + sum[3];
+}
+
+static uint64_t read_all(int bandwidth)
+{
+    const struct bandwidth_buffers *b = &now.bandwidth;
+    const struct capacity_buffers *c = &now.capacity;
+    if (bandwidth)
+        return sum_words(b->record, b->record_len) + sum_words(b->active, b->active_len) +
+               sum_words(b->configured, b->configured_len) + sum_words(b->used, b->used_len) +
+               sum_words(b->counters, b->counters_len) + sum_words(b->events, b->events_len);
+    return sum_words(c->record, c->record_len) + sum_words(c->masks, c->masks_len) +
+           sum_words(c->counters, c->counters_len) + sum_words(c->events, c->events_len);
+}
+
+/* Timing */
+
+/* Processor time, so that other programs on the machine disturb less. */
+static double seconds(void)
+{
+    struct timespec t;
+    clock_gettime(CLOCK_THREAD_CPUTIME_ID, &t);
+    return (double)t.tv_sec + 1e-9 * (double)t.tv_nsec;
+}
+
+static int by_size(const void *a, const void *b)
+{
+    double x = *(const double *)a, y = *(const double *)b;
+    return (x > y) - (x < y);
+}
+
+static double median(const double *numbers, int count)
+{
+    double sorted[MOST_REPETITIONS];
+    memcpy(sorted, numbers, (size_t)count * sizeof *sorted);
+    qsort(sorted, (size_t)count, sizeof *sorted, by_size);
+    return sorted[count / 2];
+}
+
+/* The median of the ratios within each repetition. */
+static double ratio(const double *above, const double *below, int count)
+{
+    double ratios[MOST_REPETITIONS];
+    for (int i = 0; i < count; i++)
+        ratios[i] = above[i] / below[i];
+    return median(ratios, count);
+}
+
+/* ns per call of n calls from the start state; keeps what they answer. */
+static double time_calls(const struct measured *m, const struct interface *f, uint64_t n,
+                         uint64_t *sum)
+{
+    now = start;
+    m->run(f, 1 + n / 20); /* warming up */
+    now = start;
+    double from = seconds();
+    *sum = m->run(f, n);
+    return (seconds() - from) * 1e9 / (double)n;
+}
+
+static volatile uint64_t keep;
+
+static double time_reading(int bandwidth, uint64_t n)
+{
+    now = start;
+    double from = seconds();
+    for (uint64_t i = 0; i < n; i++) {
+        keep = read_all(bandwidth);
+        __asm__ volatile("" ::: "memory");
+    }
+    return (seconds() - from) * 1e9 / (double)n;
+}
+
+static uint64_t calibrate(const struct measured *m, double milliseconds)
+{
+    uint64_t sum;
+    double ns = time_calls(m, &versions[1].f, 1000, &sum);
+    ns = time_calls(m, &versions[1].f, 2000, &sum);
+    return 1 + (uint64_t)(milliseconds * 1e6 / ns);
+}
+
+struct row {
+    double ns[VERSIONS], reading;
+    int best[GROUPS];
+    double to[GROUPS]; /* the library's time to the best of the group */
+};
+
+static void check_same(uint64_t sum, uint64_t *first_sum, int first, const char *name)
+{
+    if (first) {
+        *first_sum = sum;
+        first_end = now;
+    }
+    if (sum >> 40 || sum != *first_sum || memcmp(&now, &first_end, sizeof now)) {
+        printf("%s: answers differ or are refusals\n", name);
+        exit(1);
+    }
+}
+
+static double times[VERSIONS + 1][MOST_REPETITIONS]; /* the last is reading */
+
+static void take_times(const struct measured *m, int repetitions, double milliseconds)
+{
+    uint64_t n = calibrate(m, milliseconds), sum, first_sum = 0;
+    for (int r = 0; r < repetitions; r++) {
+        for (int turn = 0; turn < VERSIONS; turn++) {
+            int v = (r + turn) % VERSIONS;
+            times[v][r] = time_calls(m, &versions[v].f, n, &sum);
+            check_same(sum, &first_sum, r == 0 && turn == 0, m->name);
+        }
+        times[VERSIONS][r] = time_reading(m->bandwidth, n);
+    }
+}
+
+static struct row measure(const struct measured *m, int repetitions, double milliseconds)
+{
+    struct row row = {.to = {0, 0, 0}};
+    take_times(m, repetitions, milliseconds);
+    for (int v = 0; v < VERSIONS; v++) {
+        enum group g = versions[v].group;
+        double to = ratio(times[LIBRARY], times[v], repetitions);
+        row.ns[v] = median(times[v], repetitions);
+        if (to > row.to[g]) {
+            row.to[g] = to;
+            row.best[g] = v;
+        }
+    }
+    row.reading = median(times[VERSIONS], repetitions);
+    return row;
+}
+
+/* The table */
+
+static void print_row(const struct measured *m, const struct setup *s, const char *state,
+                      const struct row *row)
+{
+    int plain = row->best[PLAIN], tuned = row->best[TUNED];
+    char pairs[16];
+    snprintf(pairs, sizeof pairs, "%" PRIu64 " x %" PRIu64, s->nr, s->na);
+    printf("%-19s %-7s %4" PRIu64 " %-6s %9.1f %9.1f %-5s %9.1f %-5s %9.1f %7.2f %7.2f\n", m->name,
+           pairs, s->nm, state, row->ns[LIBRARY], row->ns[plain], versions[plain].f.name,
+           row->ns[tuned], versions[tuned].f.name, row->reading, row->to[PLAIN], row->to[TUNED]);
+    fflush(stdout);
+}
+
+static double bench_state(const struct setup *s, int mixed, int repetitions, double milliseconds)
+{
+    double worst = 0;
+    seed = 2023;
+    if (mixed)
+        state_mixed(s);
+    else
+        state_after_reset(s);
+    make_list(s, mixed);
+    for (int i = 0; i < MEASURED; i++) {
+        struct row row = measure(&measured[i], repetitions, milliseconds);
+        print_row(&measured[i], s, mixed ? "mixed" : "reset", &row);
+        worst = row.to[PLAIN] > worst ? row.to[PLAIN] : worst;
+    }
+    return worst;
+}
+
+int main(int argc, char **argv)
+{
+    static const struct setup setups[] = {{4, 2, 4}, {64, 2, 16}, {256, 8, 256}};
+    int repetitions = argc > 1 ? atoi(argv[1]) : 7;
+    double milliseconds = argc > 2 ? atof(argv[2]) : 20, worst = 0;
+    if (repetitions < 1 || repetitions > MOST_REPETITIONS || milliseconds <= 0)
+        return 2;
+    printf("ns of processor time per call, median of %d repetitions of about %.0f ms\n"
+           "(window end works on its own result)\n", repetitions, milliseconds);
+    printf("plain.c and tuned.c: -O3 for baseline x86-64, the better one of %s\n",
+           VERSIONS > 3 ? "gcc and clang" : "gcc alone");
+    printf("%-19s %-7s %4s %-6s %9s %9s %-5s %9s %-5s %9s %7s %7s\n", "call", "pairs", "NM",
+           "state", "cbqri", "plain", "", "tuned", "", "read all", "/plain", "/tuned");
+    for (int i = 0; i < 3; i++) {
+        for (int mixed = 1; mixed >= 0; mixed--) {
+            double here = bench_state(&setups[i], mixed, repetitions, milliseconds);
+            worst = here > worst ? here : worst;
+        }
+    }
+    if (bench_core)
+        bench_core();
+    printf("worst ratio %.2f\n", worst);
+    return 0;
+}

@@ -1,0 +1,108 @@
+/* The C interface as a table of functions, to run several versions side by side. */
+#ifndef INTERFACE_H
+#define INTERFACE_H
+
+#define PREFIX plain_
+#include "plain.h"
+#undef PREFIX
+
+struct interface {
+    const char *name;
+    uint64_t (*bandwidth_reset)(uint64_t nbwblks, uint64_t mrbwb, uint64_t nr,
+                                uint64_t na, uint64_t nm, uint64_t q, uint64_t w,
+                                BANDWIDTH_SLICES());
+    uint64_t (*bandwidth_read)(BANDWIDTH_SLICES(const), uint64_t size,
+                               uint64_t offset, uint64_t *value);
+    uint64_t (*bandwidth_write)(BANDWIDTH_SLICES(), uint64_t size,
+                                uint64_t offset, uint64_t value);
+    uint64_t (*bandwidth_request)(BANDWIDTH_SLICES(), uint64_t rcid,
+                                  uint64_t mcid, uint64_t at, uint64_t kind,
+                                  uint32_t bytes, uint64_t *granted);
+    uint64_t (*bandwidth_end_window)(BANDWIDTH_SLICES());
+    uint64_t (*capacity_reset)(uint64_t ncblks, uint64_t nr, uint64_t na,
+                               uint64_t nm, uint64_t w, CAPACITY_SLICES());
+    uint64_t (*capacity_read)(CAPACITY_SLICES(const), uint64_t size,
+                              uint64_t offset, uint64_t *value);
+    uint64_t (*capacity_write)(CAPACITY_SLICES(), uint64_t size,
+                               uint64_t offset, uint64_t value);
+    uint64_t (*capacity_fill)(CAPACITY_SLICES(), uint64_t rcid, uint64_t mcid,
+                              uint64_t at, uint64_t block, uint64_t *allowed);
+    uint64_t (*capacity_evict)(CAPACITY_SLICES(), uint64_t rcid, uint64_t mcid,
+                               uint64_t at, uint64_t block);
+};
+
+#define INTERFACE(label, prefix)                                               \
+    {                                                                          \
+        label, JOIN(prefix, bandwidth_reset), JOIN(prefix, bandwidth_read),    \
+            JOIN(prefix, bandwidth_write), JOIN(prefix, bandwidth_request),    \
+            JOIN(prefix, bandwidth_end_window), JOIN(prefix, capacity_reset),  \
+            JOIN(prefix, capacity_read), JOIN(prefix, capacity_write),         \
+            JOIN(prefix, capacity_fill), JOIN(prefix, capacity_evict)          \
+    }
+
+enum { MOST_PAIRS = 256 * 8, MOST_MCIDS = 256 };
+
+/* Buffers of either controller, with room for the largest set-up. */
+struct bandwidth_buffers {
+    uint8_t record[96], active[4 * MOST_PAIRS], configured[4 * MOST_PAIRS],
+        used[4 * MOST_PAIRS], counters[8 * MOST_MCIDS], events[2 * MOST_MCIDS];
+    size_t record_len, active_len, configured_len, used_len, counters_len, events_len;
+};
+
+struct capacity_buffers {
+    uint8_t record[72], masks[8 * MOST_PAIRS], counters[8 * MOST_MCIDS],
+        events[2 * MOST_MCIDS];
+    size_t record_len, masks_len, counters_len, events_len;
+};
+
+#define BANDWIDTH_OF(b)                                                        \
+    (b)->record, (b)->record_len, (b)->active, (b)->active_len,                \
+        (b)->configured, (b)->configured_len, (b)->used, (b)->used_len,        \
+        (b)->counters, (b)->counters_len, (b)->events, (b)->events_len
+#define CAPACITY_OF(c)                                                         \
+    (c)->record, (c)->record_len, (c)->masks, (c)->masks_len, (c)->counters,   \
+        (c)->counters_len, (c)->events, (c)->events_len
+
+static inline void bandwidth_lengths(struct bandwidth_buffers *b, uint64_t nr,
+                                     uint64_t na, uint64_t nm)
+{
+    b->record_len = sizeof b->record;
+    b->active_len = b->configured_len = b->used_len = 4 * nr * na;
+    b->counters_len = 8 * nm;
+    b->events_len = 2 * nm;
+}
+
+static inline void capacity_lengths(struct capacity_buffers *c, uint64_t nr,
+                                    uint64_t na, uint64_t nm)
+{
+    c->record_len = sizeof c->record;
+    c->masks_len = 8 * nr * na;
+    c->counters_len = 8 * nm;
+    c->events_len = 2 * nm;
+}
+
+/* Little-endian words of a record or table. */
+static inline uint64_t get_word(const uint8_t *table, uint64_t index, unsigned bytes)
+{
+    uint64_t word = 0;
+    for (unsigned i = 0; i < bytes; i++)
+        word |= (uint64_t)table[index * bytes + i] << 8 * i;
+    return word;
+}
+
+static inline void put_word(uint8_t *table, uint64_t index, unsigned bytes, uint64_t word)
+{
+    for (unsigned i = 0; i < bytes; i++)
+        table[index * bytes + i] = (uint8_t)(word >> 8 * i);
+}
+
+/* Random numbers with a fixed course (splitmix64). */
+static inline uint64_t next_random(uint64_t *seed)
+{
+    uint64_t z = *seed += UINT64_C(0x9e3779b97f4a7c15);
+    z = (z ^ z >> 30) * UINT64_C(0xbf58476d1ce4e5b9);
+    z = (z ^ z >> 27) * UINT64_C(0x94d049bb133111eb);
+    return z ^ z >> 31;
+}
+
+#endif

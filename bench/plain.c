@@ -1,0 +1,856 @@
+/*
+ * The controller pair in plain C11: the C interface of ../include/cbqri.h on
+ * byte buffers, written the straightforward way. It is the measure of the
+ * benchmark and a second opinion for tests. Compile with -DPREFIX=cbqri_ to
+ * get the functions under the library's own names.
+ *
+ * tuned.c includes this file and has the tables checked by functions of its
+ * own, named by the two macros below.
+ */
+#include "plain.h"
+
+#include <stdbool.h>
+#include <string.h>
+
+#ifndef BANDWIDTH_TABLES_LAWFUL
+#define BANDWIDTH_TABLES_LAWFUL bandwidth_tables_lawful
+#define CAPACITY_TABLES_LAWFUL capacity_tables_lawful
+#endif
+
+#if __BYTE_ORDER__ != __ORDER_LITTLE_ENDIAN__
+#error "loads and stores here are memcpy, so the host must be little-endian"
+#endif
+
+enum {
+    REFUSED_SETUP = 1,
+    REFUSED_LENGTH,
+    REFUSED_UNLAWFUL,
+    REFUSED_SIZE,
+    REFUSED_OFFSET,
+    REFUSED_VALUE,
+    REFUSED_ID,
+    REFUSED_BLOCK
+};
+
+enum { CAPABILITIES = 0, MON_CTL = 8, MON_CTR_VAL = 16, ALLOC_CTL = 24, ALLOC = 32, END = 40 };
+
+/* Fields of a settings word and of bw_alloc. */
+#define RBWB UINT32_C(0x0000ffff)
+#define MWEIGHT UINT32_C(0x0ff00000)
+#define SHARED_AT UINT32_C(0x70000000)
+#define USE_SHARED UINT32_C(0x80000000)
+#define SETTING (RBWB | MWEIGHT | SHARED_AT | USE_SHARED)
+#define MWEIGHT_1 UINT32_C(0x00100000)
+#define SHARED_AT_LOW 28
+
+/* Fields of the control registers; STATUS is set by the operation alone. */
+#define CTL_AT UINT64_C(0xe0)
+#define CTL_ATV UINT64_C(0x10000000)
+#define CTL_STATUS UINT64_C(0x7f00000000)
+#define ALLOC_CTL_FIELDS UINT64_C(0x000fffff)
+#define MON_CTL_FIELDS UINT64_C(0x1fffffff)
+
+/* Fields of a counter setting. */
+#define EVENT_ATV UINT32_C(0x0800)
+#define EVENT_UNNAMED UINT32_C(0xf000)
+
+/* Flags of the counter words. */
+#define BANDWIDTH_OVF (UINT64_C(1) << 63)
+#define BANDWIDTH_FLAGS (UINT64_C(3) << 62)
+#define CAPACITY_INVALID (UINT64_C(1) << 63)
+
+/* The last supported EVT_ID. */
+enum { BANDWIDTH_LAST_EVENT = 3, CAPACITY_LAST_EVENT = 1 };
+
+/* The counters of either controller. */
+struct monitor {
+    uint64_t na, nm, last_event;
+    uint8_t *counters, *events;
+};
+
+struct bandwidth_record {
+    uint64_t nbwblks, mrbwb, nr, na, nm, q, w;
+    uint64_t mon_ctl, mon_ctr_val, alloc_ctl, bw_alloc, pool_given;
+};
+
+struct bandwidth {
+    struct bandwidth_record r;
+    uint8_t *record, *active, *configured, *used;
+    struct monitor monitor;
+    uint64_t active_sum, configured_sum; /* all Rbwb, set by check 3 */
+};
+
+struct capacity_record {
+    uint64_t ncblks, nr, na, nm, w;
+    uint64_t mon_ctl, mon_ctr_val, alloc_ctl, block_mask;
+};
+
+struct capacity {
+    struct capacity_record r;
+    uint8_t *record, *masks;
+    struct monitor monitor;
+};
+
+_Static_assert(sizeof(struct bandwidth_record) == 96, "twelve words");
+_Static_assert(sizeof(struct capacity_record) == 72, "nine words");
+
+/* Loads, stores and fields */
+
+static inline uint16_t load16(const uint8_t *table, uint64_t index)
+{
+    uint16_t word;
+    memcpy(&word, table + 2 * index, sizeof word);
+    return word;
+}
+
+static inline uint32_t load32(const uint8_t *table, uint64_t index)
+{
+    uint32_t word;
+    memcpy(&word, table + 4 * index, sizeof word);
+    return word;
+}
+
+static inline uint64_t load64(const uint8_t *table, uint64_t index)
+{
+    uint64_t word;
+    memcpy(&word, table + 8 * index, sizeof word);
+    return word;
+}
+
+static inline void store16(uint8_t *table, uint64_t index, uint16_t word)
+{
+    memcpy(table + 2 * index, &word, sizeof word);
+}
+
+static inline void store32(uint8_t *table, uint64_t index, uint32_t word)
+{
+    memcpy(table + 4 * index, &word, sizeof word);
+}
+
+static inline void store64(uint8_t *table, uint64_t index, uint64_t word)
+{
+    memcpy(table + 8 * index, &word, sizeof word);
+}
+
+static inline uint64_t field(uint64_t word, unsigned low, unsigned width)
+{
+    return (word >> low) & ((UINT64_C(1) << width) - 1);
+}
+
+static inline bool in_range(uint64_t number, uint64_t low, uint64_t high)
+{
+    return low <= number && number <= high;
+}
+
+static inline uint64_t smaller(uint64_t a, uint64_t b)
+{
+    return a < b ? a : b;
+}
+
+/* A holder is a pair set with useShared 0. */
+static inline bool is_holder(uint32_t word)
+{
+    return word != 0 && !(word & USE_SHARED);
+}
+
+static inline uint64_t block_bits(uint64_t ncblks)
+{
+    return UINT64_MAX >> (64 - ncblks);
+}
+
+/* Check 1 and 2 */
+
+static bool bandwidth_setup_good(const struct bandwidth_record *r)
+{
+    return in_range(r->nbwblks, 1, 65535) && in_range(r->mrbwb, 1, r->nbwblks) &&
+           in_range(r->nr, 1, 256) && in_range(r->na, 1, 8) &&
+           in_range(r->nm, 1, 256) && in_range(r->q, 1, 65536) &&
+           in_range(r->w, 24, 62);
+}
+
+static bool capacity_setup_good(const struct capacity_record *r)
+{
+    return in_range(r->ncblks, 1, 64) && in_range(r->nr, 1, 256) &&
+           in_range(r->na, 1, 8) && in_range(r->nm, 1, 256) &&
+           in_range(r->w, 24, 62);
+}
+
+static bool monitor_lengths_good(uint64_t nm, size_t counters_len,
+                                 size_t events_len)
+{
+    return counters_len == 8 * nm && events_len == 2 * nm;
+}
+
+/* Check 3 */
+
+static bool monitor_registers_lawful(uint64_t mon_ctl, uint64_t na)
+{
+    uint64_t held = na == 1 ? CTL_AT | CTL_ATV : 0;
+    return (mon_ctl & ~((MON_CTL_FIELDS & ~held) | CTL_STATUS)) == 0;
+}
+
+static bool alloc_ctl_lawful(uint64_t alloc_ctl, uint64_t na)
+{
+    uint64_t held = na == 1 ? CTL_AT : 0;
+    return (alloc_ctl & ~((ALLOC_CTL_FIELDS & ~held) | CTL_STATUS)) == 0;
+}
+
+static bool bandwidth_registers_lawful(const struct bandwidth_record *r)
+{
+    return monitor_registers_lawful(r->mon_ctl, r->na) &&
+           alloc_ctl_lawful(r->alloc_ctl, r->na) &&
+           (r->bw_alloc & ~(uint64_t)SETTING) == 0;
+}
+
+static bool capacity_registers_lawful(const struct capacity_record *r)
+{
+    return monitor_registers_lawful(r->mon_ctl, r->na) &&
+           alloc_ctl_lawful(r->alloc_ctl, r->na) &&
+           (r->block_mask & ~block_bits(r->ncblks)) == 0;
+}
+
+static bool pool_lawful(const struct bandwidth *b)
+{
+    return b->r.pool_given <= (b->r.nbwblks - b->active_sum) * b->r.q;
+}
+
+/* Reads both settings tables, the used words, the counters and their settings,
+ * and sets the two sums. */
+static bool BANDWIDTH_TABLES_LAWFUL(struct bandwidth *b);
+/* Reads the masks, the counters and their settings. */
+static bool CAPACITY_TABLES_LAWFUL(const struct capacity *c);
+
+static bool pair_lawful(const uint8_t *row, uint64_t na, uint64_t at)
+{
+    uint32_t word = load32(row, at);
+    if (word == 0)
+        return true;
+    if (word & ~SETTING)
+        return false;
+    if (!(word & USE_SHARED))
+        return (word & RBWB) != 0 && (word & SHARED_AT) == 0;
+    uint64_t target = field(word, SHARED_AT_LOW, 3);
+    return (word & (RBWB | MWEIGHT)) == 0 && target != at && target < na &&
+           is_holder(load32(row, target));
+}
+
+static bool settings_lawful(const uint8_t *table, const struct bandwidth_record *r,
+                            uint64_t *sum)
+{
+    uint64_t total = 0;
+    for (uint64_t rcid = 0; rcid < r->nr; rcid++) {
+        const uint8_t *row = table + 4 * rcid * r->na;
+        for (uint64_t at = 0; at < r->na; at++) {
+            if (!pair_lawful(row, r->na, at))
+                return false;
+            total += load32(row, at) & RBWB; /* a sharer's is 0 */
+        }
+    }
+    *sum = total;
+    return total <= r->mrbwb;
+}
+
+static bool used_lawful(const struct bandwidth *b)
+{
+    for (uint64_t i = 0; i < b->r.nr * b->r.na; i++) {
+        uint64_t reserved = load32(b->active, i) & RBWB; /* 0 if no holder */
+        if (load32(b->used, i) > reserved * b->r.q)
+            return false;
+    }
+    return true;
+}
+
+static bool counters_lawful(const struct monitor *m, uint64_t flags, uint64_t w)
+{
+    for (uint64_t i = 0; i < m->nm; i++)
+        if ((load64(m->counters, i) & ~flags) >> w)
+            return false;
+    return true;
+}
+
+static bool event_lawful(uint32_t setting, uint64_t na, uint64_t last_event)
+{
+    if (setting == 0)
+        return true;
+    if ((setting & EVENT_UNNAMED) || !in_range(field(setting, 0, 8), 1, last_event))
+        return false;
+    uint64_t at = field(setting, 8, 3);
+    return setting & EVENT_ATV ? na > 1 && at < na : at == 0;
+}
+
+static bool events_lawful(const struct monitor *m)
+{
+    for (uint64_t i = 0; i < m->nm; i++)
+        if (!event_lawful(load16(m->events, i), m->na, m->last_event))
+            return false;
+    return true;
+}
+
+static bool masks_lawful(const struct capacity *c)
+{
+    uint64_t outside = ~block_bits(c->r.ncblks);
+    for (uint64_t i = 0; i < c->r.nr * c->r.na; i++)
+        if (load64(c->masks, i) & outside)
+            return false;
+    return true;
+}
+
+static bool bandwidth_tables_lawful(struct bandwidth *b)
+{
+    return settings_lawful(b->active, &b->r, &b->active_sum) &&
+           settings_lawful(b->configured, &b->r, &b->configured_sum) &&
+           used_lawful(b) &&
+           counters_lawful(&b->monitor, BANDWIDTH_FLAGS, b->r.w) &&
+           events_lawful(&b->monitor);
+}
+
+static bool capacity_tables_lawful(const struct capacity *c)
+{
+    return masks_lawful(c) &&
+           counters_lawful(&c->monitor, CAPACITY_INVALID, c->r.w) &&
+           events_lawful(&c->monitor);
+}
+
+/* Opening a controller: the checks every call makes */
+
+/* Check 2, and the pointers kept; the record is already in b->r. */
+static uint64_t bandwidth_attach(struct bandwidth *b, BANDWIDTH_SLICES())
+{
+    uint64_t settings_len = 4 * b->r.nr * b->r.na;
+    (void)record_len;
+    if (active_len != settings_len || configured_len != settings_len ||
+        used_len != settings_len ||
+        !monitor_lengths_good(b->r.nm, counters_len, events_len))
+        return REFUSED_LENGTH;
+    b->record = record;
+    b->active = active;
+    b->configured = configured;
+    b->used = used;
+    b->monitor = (struct monitor){b->r.na, b->r.nm, BANDWIDTH_LAST_EVENT, counters, events};
+    return 0;
+}
+
+static uint64_t capacity_attach(struct capacity *c, CAPACITY_SLICES())
+{
+    (void)record_len;
+    if (masks_len != 8 * c->r.nr * c->r.na ||
+        !monitor_lengths_good(c->r.nm, counters_len, events_len))
+        return REFUSED_LENGTH;
+    c->record = record;
+    c->masks = masks;
+    c->monitor = (struct monitor){c->r.na, c->r.nm, CAPACITY_LAST_EVENT, counters, events};
+    return 0;
+}
+
+#define BANDWIDTH_PASSED                                                       \
+    record, record_len, active, active_len, configured, configured_len, used,  \
+        used_len, counters, counters_len, events, events_len
+#define CAPACITY_PASSED                                                        \
+    record, record_len, masks, masks_len, counters, counters_len, events,      \
+        events_len
+
+/* Checks 1 to 3. */
+static uint64_t bandwidth_open(struct bandwidth *b, BANDWIDTH_SLICES())
+{
+    if (record_len != sizeof b->r)
+        return REFUSED_SETUP;
+    memcpy(&b->r, record, sizeof b->r);
+    if (!bandwidth_setup_good(&b->r))
+        return REFUSED_SETUP;
+    uint64_t refusal = bandwidth_attach(b, BANDWIDTH_PASSED);
+    if (refusal)
+        return refusal;
+    if (!bandwidth_registers_lawful(&b->r) || !BANDWIDTH_TABLES_LAWFUL(b) ||
+        !pool_lawful(b))
+        return REFUSED_UNLAWFUL;
+    return 0;
+}
+
+static uint64_t capacity_open(struct capacity *c, CAPACITY_SLICES())
+{
+    if (record_len != sizeof c->r)
+        return REFUSED_SETUP;
+    memcpy(&c->r, record, sizeof c->r);
+    if (!capacity_setup_good(&c->r))
+        return REFUSED_SETUP;
+    uint64_t refusal = capacity_attach(c, CAPACITY_PASSED);
+    if (refusal)
+        return refusal;
+    if (!capacity_registers_lawful(&c->r) || !CAPACITY_TABLES_LAWFUL(c))
+        return REFUSED_UNLAWFUL;
+    return 0;
+}
+
+static void bandwidth_save(const struct bandwidth *b)
+{
+    memcpy(b->record, &b->r, sizeof b->r);
+}
+
+static void capacity_save(const struct capacity *c)
+{
+    memcpy(c->record, &c->r, sizeof c->r);
+}
+
+/* Register accesses */
+
+/* Checks 4 and 5. */
+static uint64_t check_access(uint64_t size, uint64_t offset)
+{
+    if (size != 4 && size != 8)
+        return REFUSED_SIZE;
+    if (offset % size != 0 || offset > END - size)
+        return REFUSED_OFFSET;
+    return 0;
+}
+
+/* Checks 4 to 6. */
+static uint64_t check_write(uint64_t size, uint64_t offset, uint64_t value)
+{
+    uint64_t refusal = check_access(size, offset);
+    if (refusal)
+        return refusal;
+    return size == 4 && value > UINT32_MAX ? REFUSED_VALUE : 0;
+}
+
+static uint64_t read_part(uint64_t word, uint64_t size, uint64_t offset)
+{
+    if (size == 8)
+        return word;
+    return offset % 8 == 0 ? word & UINT32_MAX : word >> 32;
+}
+
+static uint64_t bandwidth_register(const struct bandwidth_record *r, uint64_t offset)
+{
+    switch (offset & ~UINT64_C(7)) {
+    case CAPABILITIES:
+        return 1 | r->nbwblks << 8 | r->mrbwb << 32;
+    case MON_CTL:
+        return r->mon_ctl;
+    case MON_CTR_VAL:
+        return r->mon_ctr_val;
+    case ALLOC_CTL:
+        return r->alloc_ctl;
+    default:
+        return r->bw_alloc;
+    }
+}
+
+static uint64_t capacity_register(const struct capacity_record *r, uint64_t offset)
+{
+    switch (offset & ~UINT64_C(7)) {
+    case CAPABILITIES:
+        return 1 | r->ncblks << 8;
+    case MON_CTL:
+        return r->mon_ctl;
+    case MON_CTR_VAL:
+        return r->mon_ctr_val;
+    case ALLOC_CTL:
+        return r->alloc_ctl;
+    default:
+        return r->block_mask;
+    }
+}
+
+/* Monitoring operations */
+
+static uint64_t monitor_status(const struct monitor *m, uint64_t ctl)
+{
+    uint64_t op = field(ctl, 0, 5);
+    if (op != 1 && op != 2)
+        return 2;
+    if (field(ctl, 8, 12) >= m->nm)
+        return 3;
+    if (op == 2)
+        return 1;
+    if (field(ctl, 20, 8) > m->last_event)
+        return 4;
+    if ((ctl & CTL_ATV) && field(ctl, 5, 3) >= m->na)
+        return 5;
+    return 1;
+}
+
+static void config_event(struct monitor *m, uint64_t ctl)
+{
+    uint64_t mcid = field(ctl, 8, 12);
+    uint64_t event = field(ctl, 20, 8);
+    if (event == 0) {
+        store16(m->events, mcid, 0);
+        return;
+    }
+    uint64_t at = ctl & CTL_ATV ? EVENT_ATV | field(ctl, 5, 3) << 8 : 0;
+    store16(m->events, mcid, (uint16_t)(event | at));
+    store64(m->counters, mcid, 0);
+}
+
+/* Performs the operation of a value written to mon_ctl and returns the
+ * register's new word; READ_COUNTER also sets *mon_ctr_val. */
+static uint64_t perform_monitor(struct monitor *m, uint64_t value, uint64_t *mon_ctr_val)
+{
+    uint64_t ctl = value & MON_CTL_FIELDS;
+    if (m->na == 1)
+        ctl &= ~(CTL_AT | CTL_ATV);
+    uint64_t status = monitor_status(m, ctl);
+    if (status == 1) {
+        if (field(ctl, 0, 5) == 1)
+            config_event(m, ctl);
+        else
+            *mon_ctr_val = load64(m->counters, field(ctl, 8, 12));
+    }
+    return ctl | status << 32;
+}
+
+/* Allocation operations */
+
+/* STATUS 2 to 4, which both controllers share; 1 if none applies. */
+static uint64_t alloc_status(uint64_t ctl, uint64_t nr, uint64_t na)
+{
+    uint64_t op = field(ctl, 0, 5);
+    if (op != 1 && op != 2)
+        return 2;
+    if (field(ctl, 8, 12) >= nr)
+        return 3;
+    if (field(ctl, 5, 3) >= na)
+        return 4;
+    return 1;
+}
+
+static uint64_t alloc_ctl_fields(uint64_t value, uint64_t na)
+{
+    return value & (na == 1 ? ALLOC_CTL_FIELDS & ~CTL_AT : ALLOC_CTL_FIELDS);
+}
+
+static bool holder_good(const struct bandwidth *b, uint64_t pair)
+{
+    uint64_t rbwb = b->r.bw_alloc & RBWB;
+    uint64_t replaced = load32(b->configured, pair) & RBWB;
+    return rbwb != 0 && rbwb + b->configured_sum - replaced <= b->r.mrbwb;
+}
+
+static bool sharer_good(const struct bandwidth *b, uint64_t rcid, uint64_t at)
+{
+    const uint8_t *row = b->configured + 4 * rcid * b->r.na;
+    uint64_t target = field(b->r.bw_alloc, SHARED_AT_LOW, 3);
+    if (target == at || target >= b->r.na || !is_holder(load32(row, target)))
+        return false;
+    for (uint64_t other = 0; other < b->r.na; other++) {
+        uint32_t word = load32(row, other);
+        if ((word & USE_SHARED) && other != at && field(word, SHARED_AT_LOW, 3) == at)
+            return false;
+    }
+    return true;
+}
+
+/* CONFIG_LIMIT of a pair in range. */
+static uint64_t config_limit(struct bandwidth *b, uint64_t rcid, uint64_t at)
+{
+    uint32_t operand = (uint32_t)b->r.bw_alloc;
+    uint64_t pair = rcid * b->r.na + at;
+    if (operand & USE_SHARED) {
+        if (!sharer_good(b, rcid, at))
+            return 5;
+        store32(b->configured, pair, operand & (USE_SHARED | SHARED_AT));
+    } else {
+        if (!holder_good(b, pair))
+            return 5;
+        store32(b->configured, pair, operand & (RBWB | MWEIGHT));
+    }
+    return 1;
+}
+
+static void bandwidth_perform_alloc(struct bandwidth *b, uint64_t value)
+{
+    uint64_t ctl = alloc_ctl_fields(value, b->r.na);
+    uint64_t rcid = field(ctl, 8, 12), at = field(ctl, 5, 3);
+    uint64_t status = alloc_status(ctl, b->r.nr, b->r.na);
+    if (status == 1) {
+        if (field(ctl, 0, 5) == 1)
+            status = config_limit(b, rcid, at);
+        else
+            b->r.bw_alloc = load32(b->configured, rcid * b->r.na + at);
+    }
+    b->r.alloc_ctl = ctl | status << 32;
+}
+
+static void capacity_perform_alloc(struct capacity *c, uint64_t value)
+{
+    uint64_t ctl = alloc_ctl_fields(value, c->r.na);
+    uint64_t pair = field(ctl, 8, 12) * c->r.na + field(ctl, 5, 3);
+    uint64_t status = alloc_status(ctl, c->r.nr, c->r.na);
+    if (status == 1) {
+        if (field(ctl, 0, 5) == 2)
+            c->r.block_mask = load64(c->masks, pair);
+        else if (c->r.block_mask == 0)
+            status = 5;
+        else
+            store64(c->masks, pair, c->r.block_mask);
+    }
+    c->r.alloc_ctl = ctl | status << 32;
+}
+
+/* Requests and cache events */
+
+/* Whether the counter counts this kind (1 all, 2 reads, 3 writes, or 1
+ * occupancy) and this AT. */
+static bool at_matches(uint32_t setting, uint64_t at)
+{
+    return !(setting & EVENT_ATV) || field(setting, 8, 3) == at;
+}
+
+static bool kind_matches(uint32_t setting, uint64_t kind)
+{
+    uint64_t event = field(setting, 0, 8);
+    return event == 1 || (event == 2 && kind == 0) || (event == 3 && kind != 0);
+}
+
+static void count_bytes(struct bandwidth *b, uint64_t mcid, uint64_t at,
+                        uint64_t kind, uint64_t granted)
+{
+    uint32_t setting = load16(b->monitor.events, mcid);
+    if (!kind_matches(setting, kind) || !at_matches(setting, at))
+        return;
+    uint64_t counter = load64(b->monitor.counters, mcid);
+    uint64_t sum = (counter & ~BANDWIDTH_FLAGS) + granted;
+    uint64_t flags = counter & BANDWIDTH_FLAGS;
+    if (sum >> b->r.w)
+        flags |= BANDWIDTH_OVF;
+    store64(b->monitor.counters, mcid, field(sum, 0, (unsigned)b->r.w) | flags);
+}
+
+/* Takes bytes from the holder's reservation, then from the pool. */
+static uint64_t grant(struct bandwidth *b, uint64_t pair, uint64_t bytes)
+{
+    uint32_t word = load32(b->active, pair);
+    uint64_t used = load32(b->used, pair);
+    uint64_t own = smaller(bytes, (word & RBWB) * b->r.q - used);
+    store32(b->used, pair, (uint32_t)(used + own));
+    if (!(word & MWEIGHT))
+        return own;
+    uint64_t pool = (b->r.nbwblks - b->active_sum) * b->r.q - b->r.pool_given;
+    uint64_t extra = smaller(bytes - own, pool);
+    b->r.pool_given += extra;
+    return own + extra;
+}
+
+/* Adds to or takes from a matching occupancy counter, within 0 to 2^W - 1. */
+static void count_block(struct capacity *c, uint64_t mcid, uint64_t at, bool fill)
+{
+    uint32_t setting = load16(c->monitor.events, mcid);
+    if (field(setting, 0, 8) != 1 || !at_matches(setting, at))
+        return;
+    uint64_t counter = load64(c->monitor.counters, mcid);
+    uint64_t limit = fill ? (UINT64_C(1) << c->r.w) - 1 : 0;
+    if ((counter & ~CAPACITY_INVALID) == limit)
+        counter |= CAPACITY_INVALID;
+    else
+        counter += fill ? 1 : UINT64_MAX;
+    store64(c->monitor.counters, mcid, counter);
+}
+
+/* Checks 7 and 8. */
+static uint64_t check_cache_event(const struct capacity *c, uint64_t rcid,
+                                  uint64_t mcid, uint64_t block)
+{
+    if (rcid >= c->r.nr || mcid >= c->r.nm)
+        return REFUSED_ID;
+    return block >= c->r.ncblks ? REFUSED_BLOCK : 0;
+}
+
+/* The bandwidth controller's calls */
+
+uint64_t NAME(bandwidth_reset)(uint64_t nbwblks, uint64_t mrbwb, uint64_t nr,
+                               uint64_t na, uint64_t nm, uint64_t q, uint64_t w,
+                               BANDWIDTH_SLICES())
+{
+    struct bandwidth b = {.r = {nbwblks, mrbwb, nr, na, nm, q, w, 0, 0, 0, 0, 0}};
+    if (record_len != sizeof b.r || !bandwidth_setup_good(&b.r))
+        return REFUSED_SETUP;
+    uint64_t refusal = bandwidth_attach(&b, BANDWIDTH_PASSED);
+    if (refusal)
+        return refusal;
+    memset(configured, 0, configured_len);
+    store32(configured, 0, (uint32_t)mrbwb | MWEIGHT_1);
+    for (uint64_t at = 1; at < na; at++)
+        store32(configured, at, USE_SHARED);
+    memcpy(active, configured, configured_len);
+    memset(used, 0, used_len);
+    memset(counters, 0, counters_len);
+    memset(events, 0, events_len);
+    bandwidth_save(&b);
+    return 0;
+}
+
+uint64_t NAME(bandwidth_read)(BANDWIDTH_SLICES(const), uint64_t size,
+                              uint64_t offset, uint64_t *value)
+{
+    struct bandwidth b;
+    *value = 0;
+    /* Opening only reads, so dropping const is safe here. */
+    uint64_t refusal = bandwidth_open(
+        &b, (uint8_t *)record, record_len, (uint8_t *)active, active_len,
+        (uint8_t *)configured, configured_len, (uint8_t *)used, used_len,
+        (uint8_t *)counters, counters_len, (uint8_t *)events, events_len);
+    if (!refusal)
+        refusal = check_access(size, offset);
+    if (!refusal)
+        *value = read_part(bandwidth_register(&b.r, offset), size, offset);
+    return refusal;
+}
+
+uint64_t NAME(bandwidth_write)(BANDWIDTH_SLICES(), uint64_t size,
+                               uint64_t offset, uint64_t value)
+{
+    struct bandwidth b;
+    uint64_t refusal = bandwidth_open(&b, BANDWIDTH_PASSED);
+    if (!refusal)
+        refusal = check_write(size, offset, value);
+    if (refusal)
+        return refusal;
+    switch (offset) { /* the other registers and halves drop the write */
+    case MON_CTL:
+        b.r.mon_ctl = perform_monitor(&b.monitor, value, &b.r.mon_ctr_val);
+        break;
+    case ALLOC_CTL:
+        bandwidth_perform_alloc(&b, value);
+        break;
+    case ALLOC:
+        b.r.bw_alloc = value & SETTING;
+        break;
+    }
+    bandwidth_save(&b);
+    return 0;
+}
+
+uint64_t NAME(bandwidth_request)(BANDWIDTH_SLICES(), uint64_t rcid,
+                                 uint64_t mcid, uint64_t at, uint64_t kind,
+                                 uint32_t bytes, uint64_t *granted)
+{
+    struct bandwidth b;
+    *granted = 0;
+    uint64_t refusal = bandwidth_open(&b, BANDWIDTH_PASSED);
+    if (refusal)
+        return refusal;
+    if (rcid >= b.r.nr || mcid >= b.r.nm)
+        return REFUSED_ID;
+    if (at >= b.r.na)
+        at = 0;
+    uint64_t row = rcid * b.r.na;
+    uint32_t word = load32(active, row + at);
+    if (word == 0)
+        return 0;
+    uint64_t holder = word & USE_SHARED ? field(word, SHARED_AT_LOW, 3) : at;
+    *granted = grant(&b, row + holder, bytes);
+    count_bytes(&b, mcid, at, kind, *granted);
+    bandwidth_save(&b);
+    return 0;
+}
+
+uint64_t NAME(bandwidth_end_window)(BANDWIDTH_SLICES())
+{
+    struct bandwidth b;
+    uint64_t refusal = bandwidth_open(&b, BANDWIDTH_PASSED);
+    if (refusal)
+        return refusal;
+    memcpy(active, configured, configured_len);
+    memset(used, 0, used_len);
+    b.r.pool_given = 0;
+    bandwidth_save(&b);
+    return 0;
+}
+
+/* The capacity controller's calls */
+
+uint64_t NAME(capacity_reset)(uint64_t ncblks, uint64_t nr, uint64_t na,
+                              uint64_t nm, uint64_t w, CAPACITY_SLICES())
+{
+    struct capacity c = {.r = {ncblks, nr, na, nm, w, 0, 0, 0, 0}};
+    if (record_len != sizeof c.r || !capacity_setup_good(&c.r))
+        return REFUSED_SETUP;
+    uint64_t refusal = capacity_attach(&c, CAPACITY_PASSED);
+    if (refusal)
+        return refusal;
+    memset(masks, 0, masks_len);
+    for (uint64_t at = 0; at < na; at++)
+        store64(masks, at, block_bits(ncblks));
+    memset(counters, 0, counters_len);
+    memset(events, 0, events_len);
+    capacity_save(&c);
+    return 0;
+}
+
+uint64_t NAME(capacity_read)(CAPACITY_SLICES(const), uint64_t size,
+                             uint64_t offset, uint64_t *value)
+{
+    struct capacity c;
+    *value = 0;
+    /* Opening only reads, so dropping const is safe here. */
+    uint64_t refusal = capacity_open(
+        &c, (uint8_t *)record, record_len, (uint8_t *)masks, masks_len,
+        (uint8_t *)counters, counters_len, (uint8_t *)events, events_len);
+    if (!refusal)
+        refusal = check_access(size, offset);
+    if (!refusal)
+        *value = read_part(capacity_register(&c.r, offset), size, offset);
+    return refusal;
+}
+
+uint64_t NAME(capacity_write)(CAPACITY_SLICES(), uint64_t size, uint64_t offset,
+                              uint64_t value)
+{
+    struct capacity c;
+    uint64_t refusal = capacity_open(&c, CAPACITY_PASSED);
+    if (!refusal)
+        refusal = check_write(size, offset, value);
+    if (refusal)
+        return refusal;
+    uint64_t mask = c.r.block_mask;
+    switch (offset) { /* the other registers and halves drop the write */
+    case MON_CTL:
+        c.r.mon_ctl = perform_monitor(&c.monitor, value, &c.r.mon_ctr_val);
+        break;
+    case ALLOC_CTL:
+        capacity_perform_alloc(&c, value);
+        break;
+    case ALLOC:
+        mask = size == 8 ? value : (mask & ~(uint64_t)UINT32_MAX) | value;
+        c.r.block_mask = mask & block_bits(c.r.ncblks);
+        break;
+    case ALLOC + 4:
+        mask = (mask & UINT32_MAX) | value << 32;
+        c.r.block_mask = mask & block_bits(c.r.ncblks);
+        break;
+    }
+    capacity_save(&c);
+    return 0;
+}
+
+uint64_t NAME(capacity_fill)(CAPACITY_SLICES(), uint64_t rcid, uint64_t mcid,
+                             uint64_t at, uint64_t block, uint64_t *allowed)
+{
+    struct capacity c;
+    *allowed = 0;
+    uint64_t refusal = capacity_open(&c, CAPACITY_PASSED);
+    if (!refusal)
+        refusal = check_cache_event(&c, rcid, mcid, block);
+    if (refusal)
+        return refusal;
+    if (at >= c.r.na)
+        at = 0;
+    if (!(load64(masks, rcid * c.r.na + at) >> block & 1))
+        return 0;
+    *allowed = 1;
+    count_block(&c, mcid, at, true);
+    return 0;
+}
+
+uint64_t NAME(capacity_evict)(CAPACITY_SLICES(), uint64_t rcid, uint64_t mcid,
+                              uint64_t at, uint64_t block)
+{
+    struct capacity c;
+    uint64_t refusal = capacity_open(&c, CAPACITY_PASSED);
+    if (!refusal)
+        refusal = check_cache_event(&c, rcid, mcid, block);
+    if (refusal)
+        return refusal;
+    count_block(&c, mcid, at >= c.r.na ? 0 : at, false);
+    return 0;
+}

@@ -1,0 +1,248 @@
+/*
+ * plain.c with check 3 tuned by hand: loops without exits that gather what
+ * must be 0 with |, so that the compiler turns them into vector code.
+ *
+ * - Settings are read in parts of at most 128 words. A part that is all 0 is
+ *   done at once, and so is a part of the configured table that equals the
+ *   same part of the table in force.
+ * - A well-formed sharer's Rbwb is 0, so the sum takes every word's Rbwb, and
+ *   a pair with Rbwb other than 0 is a holder.
+ * - In a row, the ATs that are shared must all be holders. This one test says
+ *   that sharedAT is below NA, is not the pair itself and is a holder.
+ */
+#ifndef PREFIX
+#define PREFIX tuned_
+#endif
+#define BANDWIDTH_TABLES_LAWFUL tuned_bandwidth_tables_lawful
+#define CAPACITY_TABLES_LAWFUL tuned_capacity_tables_lawful
+#include "plain.c"
+
+enum {
+    PART = 128, /* words of a part, at most */
+    SMALL = 32  /* tables up to this many pairs are read the plain way */
+};
+
+/* What the words of a part amount to. */
+struct gathered {
+    uint32_t any, bad, sum;
+};
+
+/* Rbwb 0 leaves sharedAT and useShared at most; another Rbwb excludes both.
+ * What remains to be seen from any: unnamed bits, and whether there are sharers
+ * or a sharedAT without useShared. */
+static struct gathered gather(const uint8_t *part, size_t n)
+{
+    uint32_t any = 0, bad = 0, sum = 0;
+    for (size_t i = 0; i < n; i++) {
+        uint32_t word = load32(part, i);
+        uint32_t rbwb = word & RBWB;
+        uint32_t no_rbwb = rbwb == 0 ? UINT32_MAX : 0;
+        any |= word;
+        bad |= word & (no_rbwb ^ (USE_SHARED | SHARED_AT));
+        sum += rbwb;
+    }
+    return (struct gathered){any, bad, sum};
+}
+
+/* holder_bits[NA - 1][i]: bit 24 + AT, where AT is i modulo NA. */
+#define B(at) (UINT32_C(1) << (24 + (at)))
+#define AT2 B(0), B(1)
+#define AT3 AT2, B(2)
+#define AT4 AT3, B(3)
+#define AT5 AT4, B(4)
+#define AT6 AT5, B(5)
+#define AT7 AT6, B(6)
+#define AT8 AT7, B(7)
+#define TWICE(...) __VA_ARGS__, __VA_ARGS__
+#define FOUR(...) TWICE(TWICE(__VA_ARGS__))
+#define EIGHT(...) TWICE(FOUR(__VA_ARGS__))
+static const uint32_t holder_bits[8][PART] = {
+    {FOUR(FOUR(EIGHT(B(0))))},
+    {EIGHT(EIGHT(AT2))},
+    {FOUR(EIGHT(AT3)), EIGHT(AT3), TWICE(AT3)},
+    {FOUR(EIGHT(AT4))},
+    {TWICE(EIGHT(AT5)), EIGHT(AT5), AT5},
+    {TWICE(EIGHT(AT6)), FOUR(AT6), AT6},
+    {TWICE(EIGHT(AT7)), TWICE(AT7)},
+    {TWICE(EIGHT(AT8))},
+};
+
+/* 1 << (word >> 28) for a well-formed word, as vectors have no such shift: the
+ * four bits become the exponent of a float from 1 to below 65,536. */
+static inline uint32_t top_bits_to_bit(uint32_t word)
+{
+    uint32_t bits = (word >> 5) + UINT32_C(0x3f800000);
+    float number;
+    memcpy(&number, &bits, sizeof number);
+    return (uint32_t)(int32_t)number;
+}
+
+/* For each pair: bit 0 if it is no sharer, bit 8 + sharedAT if it is one, bits
+ * 1 to 7 for a sharedAT without useShared; and bit 24 + AT for a holder. */
+static void mark(const uint8_t *restrict part, size_t n, const uint32_t *restrict bits,
+                 uint32_t *restrict marks)
+{
+    for (size_t i = 0; i < n; i++) {
+        uint32_t word = load32(part, i);
+        uint32_t holder = (word & RBWB) == 0 ? 0 : UINT32_MAX;
+        marks[i] = top_bits_to_bit(word) | (bits[i] & holder);
+    }
+}
+
+/* Not 0 if in some row an AT is shared that is no holder, or a pair has a
+ * sharedAT without useShared. */
+static inline uint32_t rows_bad(const uint32_t *marks, size_t rows, size_t na)
+{
+    uint32_t bad = 0;
+    for (size_t row = 0; row < rows; row++) {
+        uint32_t all = 0;
+        for (size_t at = 0; at < na; at++)
+            all |= marks[row * na + at];
+        bad |= all & 0xfffe & ~(all >> 16);
+    }
+    return bad;
+}
+
+/* The same with NA known to the compiler. */
+static uint32_t shared_bad(const uint32_t *marks, size_t rows, size_t na)
+{
+    switch (na) {
+    case 1:
+        return rows_bad(marks, rows, 1);
+    case 2:
+        return rows_bad(marks, rows, 2);
+    case 3:
+        return rows_bad(marks, rows, 3);
+    case 4:
+        return rows_bad(marks, rows, 4);
+    case 5:
+        return rows_bad(marks, rows, 5);
+    case 6:
+        return rows_bad(marks, rows, 6);
+    case 7:
+        return rows_bad(marks, rows, 7);
+    default:
+        return rows_bad(marks, rows, 8);
+    }
+}
+
+static uint32_t any_word(const uint8_t *table, size_t n)
+{
+    uint32_t any = 0;
+    for (size_t i = 0; i < n; i++)
+        any |= load32(table, i);
+    return any;
+}
+
+/* Whether the part's rows are lawful; adds their Rbwb to *sum. */
+static bool part_lawful(const uint8_t *part, size_t rows, size_t na, uint64_t *sum)
+{
+    uint32_t marks[PART];
+    struct gathered g = gather(part, rows * na);
+    *sum += g.sum;
+    if (g.bad || (g.any & ~SETTING))
+        return false;
+    if (!(g.any & (USE_SHARED | SHARED_AT)))
+        return true;
+    mark(part, rows * na, holder_bits[na - 1], marks);
+    return shared_bad(marks, rows, na) == 0;
+}
+
+/* Rbwb * Q is below 2^32 for every set-up. */
+static bool used_part_lawful(const uint8_t *restrict part,
+                             const uint8_t *restrict used, size_t n, uint32_t q)
+{
+    uint32_t bad = 0;
+    for (size_t i = 0; i < n; i++)
+        bad |= load32(used, i) > (load32(part, i) & RBWB) * q;
+    return !bad;
+}
+
+static bool all_zero(const uint8_t *active, const uint8_t *configured,
+                     const uint8_t *used, size_t n)
+{
+    return load32(active, 0) == 0 && any_word(active, n) == 0 &&
+           any_word(configured, n) == 0 && any_word(used, n) == 0;
+}
+
+/* The rows from the given first one, in all three tables. */
+static bool rows_in_tables_lawful(struct bandwidth *b, size_t first, size_t rows)
+{
+    size_t na = b->r.na, n = rows * na, start = 4 * first * na;
+    const uint8_t *active = b->active + start;
+    const uint8_t *configured = b->configured + start;
+    const uint8_t *used = b->used + start;
+    uint64_t sum = 0;
+    if (all_zero(active, configured, used, n))
+        return true;
+    if (!part_lawful(active, rows, na, &sum) ||
+        !used_part_lawful(active, used, n, (uint32_t)b->r.q))
+        return false;
+    b->active_sum += sum;
+    if (memcmp(active, configured, 4 * n) == 0)
+        b->configured_sum += sum;
+    else if (!part_lawful(configured, rows, na, &b->configured_sum))
+        return false;
+    return true;
+}
+
+static bool settings_and_used_lawful(struct bandwidth *b)
+{
+    size_t rows = PART / b->r.na;
+    b->active_sum = 0;
+    b->configured_sum = 0;
+    for (size_t first = 0; first < b->r.nr; first += rows) {
+        size_t left = b->r.nr - first;
+        if (!rows_in_tables_lawful(b, first, left < rows ? left : rows))
+            return false;
+    }
+    return b->active_sum <= b->r.mrbwb && b->configured_sum <= b->r.mrbwb;
+}
+
+static uint64_t any_word64(const uint8_t *table, size_t n)
+{
+    uint64_t any = 0;
+    for (size_t i = 0; i < n; i++)
+        any |= load64(table, i);
+    return any;
+}
+
+/* Not 0 if a counter setting is one that no operation stores. The last event
+ * is 3 or 1, so higher ones show as a bit. */
+static uint16_t events_bad(const struct monitor *m)
+{
+    uint16_t never = (uint16_t)(EVENT_UNNAMED | (0xff & ~m->last_event));
+    uint16_t top_at = (uint16_t)((m->na - 1) << 8);
+    uint16_t bad = 0;
+    if (m->na == 1)
+        never |= EVENT_ATV;
+    for (size_t i = 0; i < m->nm; i++) {
+        uint16_t setting = load16(m->events, i);
+        uint16_t at = setting & 0x0700;
+        bad |= setting & never;
+        bad |= setting & 0xff ? 0 : setting;
+        bad |= setting & EVENT_ATV ? 0 : at;
+        bad |= at > top_at;
+    }
+    return bad;
+}
+
+static bool tuned_bandwidth_tables_lawful(struct bandwidth *b)
+{
+    const struct monitor *m = &b->monitor;
+    if (b->r.nr * b->r.na <= SMALL)
+        return bandwidth_tables_lawful(b);
+    return settings_and_used_lawful(b) &&
+           (any_word64(m->counters, m->nm) & ~BANDWIDTH_FLAGS) >> b->r.w == 0 &&
+           events_bad(m) == 0;
+}
+
+static bool tuned_capacity_tables_lawful(const struct capacity *c)
+{
+    const struct monitor *m = &c->monitor;
+    if (c->r.nr * c->r.na <= SMALL)
+        return capacity_tables_lawful(c);
+    return (any_word64(c->masks, c->r.nr * c->r.na) & ~block_bits(c->r.ncblks)) == 0 &&
+           (any_word64(m->counters, m->nm) & ~CAPACITY_INVALID) >> c->r.w == 0 &&
+           events_bad(m) == 0;
+}

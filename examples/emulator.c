@@ -1,0 +1,248 @@
+/*
+ * A small emulator with both controllers in its address map, and a driver that
+ * uses them: the example to start from.
+ *
+ *     gcc emulator.c $(pkg-config --cflags --libs cbqri) -o emulator
+ *
+ * It has three parts: the machine (buffers, address map, traffic), the driver
+ * (reads and writes by address alone), and the story that main tells.
+ */
+#include <cbqri.h>
+
+#include <inttypes.h>
+#include <stdio.h>
+#include <stdlib.h>
+
+/* ---- The machine: buffers of both controllers ---- */
+
+enum { NR = 4, NA = 2, NM = 4, W = 24 };
+enum { NBWBLKS = 100, MRBWB = 80, Q = 64, NCBLKS = 40 };
+
+static uint8_t bw_record[CBQRI_BANDWIDTH_RECORD_LEN], bw_active[CBQRI_SETTINGS_LEN(NR, NA)],
+    bw_configured[CBQRI_SETTINGS_LEN(NR, NA)], bw_used[CBQRI_SETTINGS_LEN(NR, NA)],
+    bw_counters[CBQRI_COUNTERS_LEN(NM)], bw_events[CBQRI_EVENTS_LEN(NM)];
+#define BW                                                                                \
+    bw_record, sizeof bw_record, bw_active, sizeof bw_active, bw_configured,              \
+        sizeof bw_configured, bw_used, sizeof bw_used, bw_counters, sizeof bw_counters,   \
+        bw_events, sizeof bw_events
+
+static uint8_t cc_record[CBQRI_CAPACITY_RECORD_LEN], cc_masks[CBQRI_MASKS_LEN(NR, NA)],
+    cc_counters[CBQRI_COUNTERS_LEN(NM)], cc_events[CBQRI_EVENTS_LEN(NM)];
+#define CC                                                                                \
+    cc_record, sizeof cc_record, cc_masks, sizeof cc_masks, cc_counters,                  \
+        sizeof cc_counters, cc_events, sizeof cc_events
+
+/* A refusal here is a fault of the emulator, not of the driver. */
+static void must(uint64_t refusal, const char *what)
+{
+    if (refusal == 0)
+        return;
+    printf("%s refused: %" PRIu64 "\n", what, refusal);
+    exit(1);
+}
+
+/* ---- The machine: address map ---- */
+
+#define BW_BASE UINT64_C(0x10000000)
+#define CC_BASE UINT64_C(0x10001000)
+#define PAGE UINT64_C(0x1000)
+
+/* What the bus does with a bad access (size, offset or value) is the
+ * emulator's choice; this one reads 0 and drops the write. */
+static void bus_fault(uint64_t refusal, uint64_t address)
+{
+    if (refusal >= CBQRI_REFUSED_SIZE)
+        printf("bus: access at 0x%" PRIx64 " refused, %" PRIu64 "\n", address, refusal);
+    else
+        must(refusal, "access");
+}
+
+static uint64_t mmio_read(uint64_t address, uint64_t size)
+{
+    uint64_t value = 0, refusal = CBQRI_REFUSED_OFFSET;
+    if (address - BW_BASE < PAGE)
+        refusal = cbqri_bandwidth_read(BW, size, address - BW_BASE, &value);
+    else if (address - CC_BASE < PAGE)
+        refusal = cbqri_capacity_read(CC, size, address - CC_BASE, &value);
+    bus_fault(refusal, address);
+    return value;
+}
+
+static void mmio_write(uint64_t address, uint64_t size, uint64_t value)
+{
+    uint64_t refusal = CBQRI_REFUSED_OFFSET;
+    if (address - BW_BASE < PAGE)
+        refusal = cbqri_bandwidth_write(BW, size, address - BW_BASE, value);
+    else if (address - CC_BASE < PAGE)
+        refusal = cbqri_capacity_write(CC, size, address - CC_BASE, value);
+    bus_fault(refusal, address);
+}
+
+/* ---- The machine: traffic ---- */
+
+static void request(uint64_t rcid, uint64_t mcid, uint64_t at, int write, uint32_t bytes)
+{
+    uint64_t granted;
+    must(cbqri_bandwidth_request(BW, rcid, mcid, at, (uint64_t)write, bytes, &granted), "request");
+    printf("  RCID %" PRIu64 " AT %" PRIu64 " MCID %" PRIu64 " %s %4" PRIu32 ": %4" PRIu64
+           " granted\n", rcid, at, mcid, write ? "writes" : "reads ", bytes, granted);
+}
+
+static void fill(uint64_t rcid, uint64_t mcid, uint64_t at, uint64_t block)
+{
+    uint64_t allowed;
+    must(cbqri_capacity_fill(CC, rcid, mcid, at, block, &allowed), "fill");
+    printf("  RCID %" PRIu64 " AT %" PRIu64 " MCID %" PRIu64 " fills block %2" PRIu64 ": %s\n",
+           rcid, at, mcid, block, allowed ? "allowed" : "not allowed");
+}
+
+static void evict(uint64_t rcid, uint64_t mcid, uint64_t at, uint64_t block)
+{
+    must(cbqri_capacity_evict(CC, rcid, mcid, at, block), "evict");
+    printf("  RCID %" PRIu64 " AT %" PRIu64 " MCID %" PRIu64 " empties block %" PRIu64 "\n", rcid,
+           at, mcid, block);
+}
+
+static uint64_t word_at(const uint8_t *bytes, size_t length)
+{
+    uint64_t word = 0;
+    while (length-- > 0)
+        word = word << 8 | bytes[length];
+    return word;
+}
+
+/* What governed in the window, read from the tables, and then its end. */
+static void end_window(int window)
+{
+    uint64_t reserved = 0;
+    printf("window %d ends; in force were\n", window);
+    for (unsigned pair = 0; pair < NR * NA; pair++) {
+        uint64_t setting = word_at(bw_active + 4 * pair, 4), rbwb = setting & 0xffff;
+        if (setting >> 31)
+            printf("  RCID %u AT %u: shares AT %u\n", pair / NA, pair % NA,
+                   (unsigned)(setting >> 28 & 7));
+        else if (setting)
+            printf("  RCID %u AT %u: reservation %4" PRIu64 ", used %4" PRIu64 ", Mweight %" PRIu64
+                   "\n", pair / NA, pair % NA, rbwb * Q, word_at(bw_used + 4 * pair, 4),
+                   setting >> 20 & 0xff);
+        reserved += rbwb;
+    }
+    printf("  pool: %" PRIu64 ", gave %" PRIu64 "\n\n", (NBWBLKS - reserved) * Q,
+           word_at(bw_record + 88, 8));
+    must(cbqri_bandwidth_end_window(BW), "window end");
+}
+
+/* ---- The driver: it knows base addresses and registers only ---- */
+
+static uint64_t driver_operation(uint64_t base, uint64_t ctl_offset, uint64_t ctl)
+{
+    mmio_write(base + ctl_offset, 8, ctl);
+    return cbqri_status(mmio_read(base + ctl_offset, 8));
+}
+
+static void driver_limit(uint64_t base, uint64_t rcid, uint64_t at, uint64_t limit)
+{
+    mmio_write(base + CBQRI_BW_ALLOC, 8, limit);
+    uint64_t status = driver_operation(base, CBQRI_ALLOC_CTL,
+                                       cbqri_alloc_ctl(CBQRI_CONFIG_LIMIT, at, rcid));
+    driver_operation(base, CBQRI_ALLOC_CTL, cbqri_alloc_ctl(CBQRI_READ_LIMIT, at, rcid));
+    printf("driver: limit of RCID %" PRIu64 " AT %" PRIu64 " to 0x%" PRIx64 ": STATUS %" PRIu64
+           ", reads back 0x%" PRIx64 "\n", rcid, at, limit, status,
+           mmio_read(base + CBQRI_BW_ALLOC, 8));
+}
+
+static void driver_event(uint64_t base, uint64_t mcid, uint64_t event, uint64_t at, uint64_t atv)
+{
+    uint64_t ctl = cbqri_mon_ctl(CBQRI_CONFIG_EVENT, at, mcid, event, atv);
+    printf("driver: MCID %" PRIu64 " counts event %" PRIu64, mcid, event);
+    if (atv)
+        printf(" of AT %" PRIu64, at);
+    printf(": STATUS %" PRIu64 "\n", driver_operation(base, CBQRI_MON_CTL, ctl));
+}
+
+static void driver_counter(uint64_t base, uint64_t mcid)
+{
+    driver_operation(base, CBQRI_MON_CTL, cbqri_mon_ctl(CBQRI_READ_COUNTER, 0, mcid, 0, 0));
+    printf("driver: counter of MCID %" PRIu64 " is 0x%016" PRIx64 "\n", mcid,
+           mmio_read(base + CBQRI_MON_CTR_VAL, 8));
+}
+
+static void driver_probe(void)
+{
+    uint64_t bw = mmio_read(BW_BASE + CBQRI_CAPABILITIES, 8);
+    uint64_t cc = mmio_read(CC_BASE + CBQRI_CAPABILITIES, 8);
+    printf("driver: bandwidth VER %" PRIu64 " NBWBLKS %" PRIu64 " MRBWB %" PRIu64
+           ", capacity VER %" PRIu64 " NCBLKS %" PRIu64 "\n\n", bw & 0xff, bw >> 8 & 0xffff,
+           bw >> 32 & 0xffff, cc & 0xff, cc >> 8 & 0xffff);
+}
+
+/* ---- The story ---- */
+
+static void bandwidth_story(void)
+{
+    request(0, 0, 0, 0, 6000); /* after reset RCID 0 has all: 5,120 reserved, 880 of the pool */
+    request(1, 0, 0, 0, 1000); /* never set */
+    driver_limit(BW_BASE, 1, 0, cbqri_holder(10, 5)); /* 80 + 10 exceeds MRBWB */
+    driver_limit(BW_BASE, 0, 0, cbqri_holder(30, 1));
+    driver_limit(BW_BASE, 1, 0, cbqri_holder(30, 5));
+    driver_limit(BW_BASE, 1, 1, cbqri_sharer(0));
+    driver_limit(BW_BASE, 2, 0, cbqri_holder(20, 0));
+    driver_event(BW_BASE, 1, CBQRI_EVENT_BYTES, 0, 0);
+    driver_event(BW_BASE, 2, CBQRI_EVENT_WRITES, 1, 1);
+    request(1, 1, 0, 0, 10); /* configured, but not in force before the window ends */
+    end_window(0);
+
+    request(0, 0, 0, 0, 2500); /* 1,920 reserved, 580 of the pool */
+    request(1, 1, 1, 0, 2000); /* by AT 0, which it shares: 1,920 reserved, 80 of the pool */
+    request(1, 1, 0, 1, 1000); /* only the pool's last 620 */
+    request(2, 2, 0, 1, 1500); /* 1,280 reserved; Mweight 0, so nothing of the pool */
+    request(3, 0, 0, 0, 100);  /* never set */
+    /* A refused CONFIG_LIMIT must not keep later ones from governing. */
+    driver_limit(BW_BASE, 3, 0, cbqri_holder(1, 1)); /* 80 + 1 exceeds MRBWB */
+    driver_limit(BW_BASE, 1, 0, cbqri_holder(15, 5));
+    driver_limit(BW_BASE, 3, 0, cbqri_holder(10, 0));
+    end_window(1);
+
+    request(3, 0, 0, 0, 1000); /* now 640 reserved */
+    request(1, 1, 0, 0, 900);  /* 900 of 960 reserved */
+    request(1, 2, 1, 1, 2000); /* the other 60, and all 1,600 of the pool */
+    request(0, 0, 0, 0, 2500); /* 1,920 reserved; the pool is empty */
+    end_window(2);
+
+    driver_counter(BW_BASE, 1); /* 2,000 + 620 + 900 */
+    driver_counter(BW_BASE, 2); /* 1,660: the write of AT 1 alone */
+    mmio_read(BW_BASE + 12, 8); /* no multiple of 8 */
+}
+
+static void capacity_story(void)
+{
+    printf("\n");
+    driver_limit(CC_BASE, 1, 0, 0); /* a mask must not be 0 */
+    driver_limit(CC_BASE, 1, 0, 0x0f);
+    driver_limit(CC_BASE, 1, 1, UINT64_C(0xff000000f0)); /* in pieces */
+    driver_event(CC_BASE, 1, CBQRI_EVENT_OCCUPANCY, 0, 0);
+    driver_event(CC_BASE, 2, CBQRI_EVENT_OCCUPANCY, 1, 1);
+    driver_event(CC_BASE, 2, CBQRI_EVENT_WRITES, 0, 0); /* no event of this controller */
+    fill(1, 1, 0, 3);
+    fill(1, 1, 0, 4);
+    fill(1, 1, 1, 4);
+    fill(1, 2, 1, 39);
+    fill(1, 2, 0, 2); /* allowed, but MCID 2 counts AT 1 alone */
+    driver_counter(CC_BASE, 1);
+    driver_counter(CC_BASE, 2);
+    evict(1, 1, 0, 3);
+    evict(1, 2, 1, 39);
+    evict(1, 2, 1, 38); /* never filled: the counter stays at 0 and becomes INVALID */
+    driver_counter(CC_BASE, 1);
+    driver_counter(CC_BASE, 2);
+}
+
+int main(void)
+{
+    must(cbqri_bandwidth_reset(NBWBLKS, MRBWB, NR, NA, NM, Q, W, BW), "reset");
+    must(cbqri_capacity_reset(NCBLKS, NR, NA, NM, W, CC), "reset");
+    driver_probe();
+    bandwidth_story();
+    capacity_story();
+    return 0;
+}

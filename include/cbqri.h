@@ -1,0 +1,386 @@
+/*
+ * cbqri.h - a pair of RISC-V CBQRI quality-of-service controllers
+ *
+ * One bandwidth controller and one capacity controller, as an emulator uses
+ * them: the registers a driver sees, the requests and cache events the
+ * emulated system makes, and the end of a bandwidth window. Link with
+ * libcbqri.a (pkg-config --cflags --libs cbqri).
+ *
+ * RCID is the resource control ID, MCID the monitoring counter ID and AT the
+ * access type. A pair is an RCID with an AT. All numbers are unsigned.
+ *
+ *
+ * HOW IT IS CALLED
+ *
+ * The library keeps nothing of its own. A controller is a small record and a
+ * few tables in buffers that you own and lend to each call. Set the buffers up
+ * with a reset, then hand the same buffers to every later call. Buffers may be
+ * saved and restored like any bytes; every call but a reset checks them whole.
+ *
+ *     #include <cbqri.h>
+ *     #include <stdint.h>
+ *
+ *     enum { NR = 4, NA = 2, NM = 4 };
+ *     static uint8_t record[CBQRI_BANDWIDTH_RECORD_LEN];
+ *     static uint8_t active[CBQRI_SETTINGS_LEN(NR, NA)];
+ *     static uint8_t configured[CBQRI_SETTINGS_LEN(NR, NA)];
+ *     static uint8_t used[CBQRI_SETTINGS_LEN(NR, NA)];
+ *     static uint8_t counters[CBQRI_COUNTERS_LEN(NM)];
+ *     static uint8_t events[CBQRI_EVENTS_LEN(NM)];
+ *     #define BW record, sizeof record, active, sizeof active,          \
+ *             configured, sizeof configured, used, sizeof used,         \
+ *             counters, sizeof counters, events, sizeof events
+ *
+ *     uint64_t ctl, granted;
+ *     // NBWBLKS 100, MRBWB 80, Q 64 bytes for a block, W 24 bits
+ *     cbqri_bandwidth_reset(100, 80, NR, NA, NM, 64, 24, BW);
+ *     // RCID 0, AT 0 down from 80 blocks to 30
+ *     cbqri_bandwidth_write(BW, 8, CBQRI_BW_ALLOC, cbqri_holder(30, 1));
+ *     cbqri_bandwidth_write(BW, 8, CBQRI_ALLOC_CTL,
+ *                           cbqri_alloc_ctl(CBQRI_CONFIG_LIMIT, 0, 0));
+ *     cbqri_bandwidth_read(BW, 8, CBQRI_ALLOC_CTL, &ctl);
+ *     // ctl is 0x0000000100000001, so cbqri_status(ctl) is CBQRI_STATUS_OK
+ *     cbqri_bandwidth_end_window(BW);
+ *     // 30 blocks of 64 bytes reserved: all 1,000 bytes are granted
+ *     cbqri_bandwidth_request(BW, 0, 0, 0, 0, 1000, &granted);
+ *
+ * Rules for the buffers:
+ *
+ * - A buffer is a pointer and its length in bytes. Words in it are
+ *   little-endian on every host; no alignment is asked.
+ * - Record, tables and the number that a call hands back must not overlap one
+ *   another, and no pointer may be NULL.
+ * - Calls on buffers that have no byte in common may run at the same time.
+ *
+ * Every function returns 0, or the number of a refusal (below). A refused call
+ * has changed nothing, and the number it hands back is 0. Refusals are about
+ * the caller: what a driver does wrong shows in STATUS, and the call that
+ * carried its write returns 0.
+ *
+ *
+ * SET-UP
+ *
+ *   NR       RCIDs                                1 to 256
+ *   NA       access types                         1 to 8
+ *   NM       MCIDs                                1 to 256
+ *   W        width of a counter in bits           24 to 62
+ *   NBWBLKS  bandwidth blocks                     1 to 65,535
+ *   MRBWB    blocks that can be reserved          1 to NBWBLKS
+ *   Q        bytes a block is worth in a window   1 to 65,536
+ *   NCBLKS   capacity blocks                      1 to 64
+ *
+ *
+ * RECORDS, in bytes from the start, 8 bytes for each number
+ *
+ *   bandwidth, 96 bytes              capacity, 72 bytes
+ *    0 NBWBLKS                        0 NCBLKS
+ *    8 MRBWB                          8 NR
+ *   16 NR                            16 NA
+ *   24 NA                            24 NM
+ *   32 NM                            32 W
+ *   40 Q                             40 mon_ctl
+ *   48 W                             48 mon_ctr_val
+ *   56 mon_ctl                       56 alloc_ctl
+ *   64 mon_ctr_val                   64 block_mask
+ *   72 alloc_ctl
+ *   80 bw_alloc
+ *   88 bytes the pool gave in this window
+ *
+ *
+ * TABLES
+ *
+ * Those with a word for each pair hold the pair of RCID and AT at index
+ * RCID * NA + AT; those of counters go by MCID.
+ *
+ *   bandwidth: active      settings in force           4 bytes a pair
+ *              configured  settings configured         4 bytes a pair
+ *              used        bytes used of reservations  4 bytes a pair
+ *   capacity:  masks       block masks                 8 bytes a pair
+ *   both:      counters    counter words               8 bytes an MCID
+ *              events      counter settings            2 bytes an MCID
+ *
+ * A setting is 0 for a pair never set, or has the fields of bw_alloc: a holder
+ * has useShared 0, Rbwb other than 0 and sharedAT 0; a sharer has useShared 1
+ * and sharedAT, a holder of the same RCID, and Rbwb and Mweight 0.
+ * A counter word has the fields of mon_ctr_val. A counter setting has EVT_ID
+ * in bits 7:0, AT in 10:8 and ATV in 11, and is 0 while the counter is stopped.
+ *
+ * Record and tables are lawful, as refusal 3 asks, when
+ * - both settings tables hold only such words, and in each the Rbwb of all
+ *   holders together do not exceed MRBWB;
+ * - used is at most Rbwb * Q for a holder in force, and 0 for other pairs;
+ * - the pool gave at most (NBWBLKS - all Rbwb in force) * Q;
+ * - masks and block_mask have no bit at or above NCBLKS;
+ * - counters are below 2^W, flags aside;
+ * - a counter setting is 0 or has a known EVT_ID other than 0, with ATV 1 only
+ *   if NA is above 1 and AT below NA, and AT 0 if ATV is 0;
+ * - registers have no bit outside their fields, BUSY is 0 and, with NA 1, the
+ *   AT and ATV of the control registers are 0.
+ *
+ *
+ * REGISTERS
+ *
+ * Each controller spans 40 bytes and is read and written in 4 or 8 bytes.
+ *
+ *    0 capabilities  VER 7:0 (0x01), and NBWBLKS 23:8, MRBWB 47:32 for
+ *                    bandwidth, NCBLKS 23:8, FRCID 24 (0) for capacity
+ *    8 mon_ctl       OP 4:0, AT 7:5, MCID 19:8, EVT_ID 27:20, ATV 28,
+ *                    STATUS 38:32, BUSY 39
+ *   16 mon_ctr_val   bandwidth: CTR 61:0, INVALID 62, OVF 63
+ *                    capacity: CTR 62:0, INVALID 63
+ *   24 alloc_ctl     OP 4:0, AT 7:5, RCID 19:8, STATUS 38:32, BUSY 39
+ *   32 bw_alloc      Rbwb 15:0, Mweight 27:20, sharedAT 30:28, useShared 31
+ *      block_mask    a bit for each capacity block
+ *
+ * Other bits read 0 and writes to them are dropped, as are writes to
+ * capabilities and mon_ctr_val. A write of a control register, whole or its
+ * low half, performs the operation before it returns, so BUSY reads 0; a write
+ * of its high half does nothing. With NA 1 the AT and ATV of the control
+ * registers are held as 0. Either half of block_mask may be written alone.
+ */
+#ifndef CBQRI_H
+#define CBQRI_H
+
+#include <stddef.h>
+#include <stdint.h>
+
+#ifdef __cplusplus
+extern "C" {
+#endif
+
+/* Lengths of records and tables in bytes. */
+#define CBQRI_BANDWIDTH_RECORD_LEN 96
+#define CBQRI_CAPACITY_RECORD_LEN 72
+/* active, configured and used, each */
+#define CBQRI_SETTINGS_LEN(nr, na) (4 * (size_t)(nr) * (size_t)(na))
+#define CBQRI_MASKS_LEN(nr, na) (8 * (size_t)(nr) * (size_t)(na))
+#define CBQRI_COUNTERS_LEN(nm) (8 * (size_t)(nm))
+#define CBQRI_EVENTS_LEN(nm) (2 * (size_t)(nm))
+
+/* Refusals, in the order in which they are checked. */
+enum {
+    CBQRI_REFUSED_SETUP = 1,    /* set-up outside its ranges, or a record of another length */
+    CBQRI_REFUSED_LENGTH = 2,   /* a table of another length than the set-up says */
+    CBQRI_REFUSED_UNLAWFUL = 3, /* record or table not lawful; not checked by a reset */
+    CBQRI_REFUSED_SIZE = 4,     /* access neither of 4 nor of 8 bytes */
+    CBQRI_REFUSED_OFFSET = 5,   /* offset no multiple of the size, or the end beyond byte 40 */
+    CBQRI_REFUSED_VALUE = 6,    /* 4-byte write of a value of 2^32 or more */
+    CBQRI_REFUSED_ID = 7,       /* RCID at or above NR, or MCID at or above NM */
+    CBQRI_REFUSED_BLOCK = 8     /* block at or above NCBLKS */
+};
+
+/* Register offsets. */
+enum {
+    CBQRI_CAPABILITIES = 0,
+    CBQRI_MON_CTL = 8,
+    CBQRI_MON_CTR_VAL = 16,
+    CBQRI_ALLOC_CTL = 24,
+    CBQRI_BW_ALLOC = 32,   /* bandwidth */
+    CBQRI_BLOCK_MASK = 32, /* capacity */
+    CBQRI_SPAN = 40        /* bytes of a controller's registers */
+};
+
+/* OP of alloc_ctl and of mon_ctl. */
+enum {
+    CBQRI_CONFIG_LIMIT = 1,
+    CBQRI_READ_LIMIT = 2,
+    CBQRI_CONFIG_EVENT = 1,
+    CBQRI_READ_COUNTER = 2
+};
+
+/* EVT_ID. */
+enum {
+    CBQRI_EVENT_NONE = 0,     /* stops the counter; it keeps value and flags */
+    CBQRI_EVENT_BYTES = 1,    /* bandwidth: bytes read and written */
+    CBQRI_EVENT_READS = 2,    /* bandwidth: bytes read */
+    CBQRI_EVENT_WRITES = 3,   /* bandwidth: bytes written */
+    CBQRI_EVENT_OCCUPANCY = 1 /* capacity: blocks filled and not emptied */
+};
+
+/* STATUS; the first that applies. An operation that ends in another STATUS
+ * than 1 has changed nothing but its own control register. */
+enum {
+    CBQRI_STATUS_OK = 1,
+    CBQRI_STATUS_BAD_OP = 2,          /* no such operation */
+    CBQRI_STATUS_BAD_ID = 3,          /* RCID at or above NR, or MCID at or above NM */
+    CBQRI_STATUS_ALLOC_BAD_AT = 4,    /* alloc_ctl: AT at or above NA */
+    CBQRI_STATUS_ALLOC_BAD_LIMIT = 5, /* CONFIG_LIMIT: bw_alloc or block_mask cannot be taken */
+    CBQRI_STATUS_MON_BAD_EVENT = 4,   /* CONFIG_EVENT: no such EVT_ID */
+    CBQRI_STATUS_MON_BAD_AT = 5       /* CONFIG_EVENT: ATV 1 and AT at or above NA */
+};
+
+/* Flags of mon_ctr_val and of a counter word. */
+#define CBQRI_BANDWIDTH_INVALID (UINT64_C(1) << 62)
+#define CBQRI_BANDWIDTH_OVF (UINT64_C(1) << 63)
+#define CBQRI_CAPACITY_INVALID (UINT64_C(1) << 63)
+
+/* Register words. */
+static inline uint64_t cbqri_alloc_ctl(uint64_t op, uint64_t at, uint64_t rcid)
+{
+    return (op & 0x1f) | (at & 7) << 5 | (rcid & 0xfff) << 8;
+}
+
+static inline uint64_t cbqri_mon_ctl(uint64_t op, uint64_t at, uint64_t mcid, uint64_t evt_id,
+                                     uint64_t atv)
+{
+    return (op & 0x1f) | (at & 7) << 5 | (mcid & 0xfff) << 8 | (evt_id & 0xff) << 20 |
+           (atv & 1) << 28;
+}
+
+/* bw_alloc of a pair that holds Rbwb blocks; with Mweight 0 the pool gives it nothing. */
+static inline uint64_t cbqri_holder(uint64_t rbwb, uint64_t mweight)
+{
+    return (rbwb & 0xffff) | (mweight & 0xff) << 20;
+}
+
+/* bw_alloc of a pair that uses the blocks of another AT of its RCID. */
+static inline uint64_t cbqri_sharer(uint64_t shared_at)
+{
+    return UINT64_C(0x80000000) | (shared_at & 7) << 28;
+}
+
+/* STATUS of a control register's word. */
+static inline uint64_t cbqri_status(uint64_t ctl)
+{
+    return ctl >> 32 & 0x7f;
+}
+
+/* ------------------------------------------------------------------------
+ * The bandwidth controller
+ *
+ * CONFIG_LIMIT writes the configured setting of a pair; the settings in force
+ * are those that were configured at the last window end (or reset). It ends
+ * in STATUS 5 if
+ * - useShared is 0 and Rbwb is 0, or Rbwb with the Rbwb of all other
+ *   configured holders exceeds MRBWB;
+ * - useShared is 1 and sharedAT is this AT, is at or above NA, or is no
+ *   configured holder of this RCID, or another AT of this RCID shares this one.
+ * Stored are Rbwb and Mweight of a holder, sharedAT and useShared of a sharer;
+ * the blocks that a new sharer had are free again.
+ * READ_LIMIT copies the configured setting into bw_alloc, 0 for a pair never
+ * set.
+ *
+ * CONFIG_EVENT with an event other than 0 sets the counter and its flags to 0
+ * and counts what the MCID does from then on, with ATV 1 only under that AT.
+ * READ_COUNTER copies the counter word into mon_ctr_val.
+ * ------------------------------------------------------------------------ */
+
+/* Sets the controller up anew, whatever record and tables held. RCID 0 with
+ * AT 0 holds MRBWB blocks with Mweight 1 and its other ATs share AT 0, in
+ * force at once; no other pair is set. Counters and registers are 0.
+ * Refusals: 1, 2. */
+uint64_t cbqri_bandwidth_reset(uint64_t nbwblks, uint64_t mrbwb, uint64_t nr, uint64_t na,
+                               uint64_t nm, uint64_t q, uint64_t w,
+                               uint8_t *record, size_t record_len,
+                               uint8_t *active, size_t active_len,
+                               uint8_t *configured, size_t configured_len,
+                               uint8_t *used, size_t used_len,
+                               uint8_t *counters, size_t counters_len,
+                               uint8_t *events, size_t events_len);
+
+/* A driver's read of size bytes at offset: the register, or the half of it
+ * that lies there, goes to *value. Refusals: 1 to 5. */
+uint64_t cbqri_bandwidth_read(const uint8_t *record, size_t record_len,
+                              const uint8_t *active, size_t active_len,
+                              const uint8_t *configured, size_t configured_len,
+                              const uint8_t *used, size_t used_len,
+                              const uint8_t *counters, size_t counters_len,
+                              const uint8_t *events, size_t events_len,
+                              uint64_t size, uint64_t offset, uint64_t *value);
+
+/* A driver's write of size bytes at offset, with the operation it performs.
+ * Refusals: 1 to 6. */
+uint64_t cbqri_bandwidth_write(uint8_t *record, size_t record_len,
+                               uint8_t *active, size_t active_len,
+                               uint8_t *configured, size_t configured_len,
+                               uint8_t *used, size_t used_len,
+                               uint8_t *counters, size_t counters_len,
+                               uint8_t *events, size_t events_len,
+                               uint64_t size, uint64_t offset, uint64_t value);
+
+/* A request to read (kind 0) or write (any other kind) so many bytes. An AT at
+ * or above NA counts as 0. The granted bytes, perhaps fewer than asked and
+ * perhaps 0, go to *granted. By the settings in force:
+ * - a pair never set is granted 0;
+ * - the pair's holder (itself, or the pair it shares) gives what is left of
+ *   its Rbwb * Q bytes in this window;
+ * - if the holder's Mweight is not 0, the rest comes from the pool, as far as
+ *   it has bytes left: (NBWBLKS - all Rbwb in force) * Q in each window.
+ * The granted bytes are added to the counter of the MCID if its event and AT
+ * match; it wraps at 2^W, and OVF is then set until an event other than 0 is
+ * configured, or a reset. Refusals: 1 to 3, 7. */
+uint64_t cbqri_bandwidth_request(uint8_t *record, size_t record_len,
+                                 uint8_t *active, size_t active_len,
+                                 uint8_t *configured, size_t configured_len,
+                                 uint8_t *used, size_t used_len,
+                                 uint8_t *counters, size_t counters_len,
+                                 uint8_t *events, size_t events_len,
+                                 uint64_t rcid, uint64_t mcid, uint64_t at, uint64_t kind,
+                                 uint32_t bytes, uint64_t *granted);
+
+/* Ends the window: configured settings come into force, and reservations and
+ * pool are whole again. Refusals: 1 to 3. */
+uint64_t cbqri_bandwidth_end_window(uint8_t *record, size_t record_len,
+                                    uint8_t *active, size_t active_len,
+                                    uint8_t *configured, size_t configured_len,
+                                    uint8_t *used, size_t used_len,
+                                    uint8_t *counters, size_t counters_len,
+                                    uint8_t *events, size_t events_len);
+
+/* ------------------------------------------------------------------------
+ * The capacity controller
+ *
+ * CONFIG_LIMIT stores block_mask as the mask of a pair, in force at once; it
+ * ends in STATUS 5 if block_mask is 0. Masks may overlap. READ_LIMIT copies
+ * the pair's mask into block_mask. The monitoring operations are those of the
+ * bandwidth controller.
+ * ------------------------------------------------------------------------ */
+
+/* Sets the controller up anew, whatever record and tables held. RCID 0 has
+ * every block for each AT; other masks, counters and registers are 0.
+ * Refusals: 1, 2. */
+uint64_t cbqri_capacity_reset(uint64_t ncblks, uint64_t nr, uint64_t na, uint64_t nm, uint64_t w,
+                              uint8_t *record, size_t record_len,
+                              uint8_t *masks, size_t masks_len,
+                              uint8_t *counters, size_t counters_len,
+                              uint8_t *events, size_t events_len);
+
+/* As cbqri_bandwidth_read. */
+uint64_t cbqri_capacity_read(const uint8_t *record, size_t record_len,
+                             const uint8_t *masks, size_t masks_len,
+                             const uint8_t *counters, size_t counters_len,
+                             const uint8_t *events, size_t events_len,
+                             uint64_t size, uint64_t offset, uint64_t *value);
+
+/* As cbqri_bandwidth_write. */
+uint64_t cbqri_capacity_write(uint8_t *record, size_t record_len,
+                              uint8_t *masks, size_t masks_len,
+                              uint8_t *counters, size_t counters_len,
+                              uint8_t *events, size_t events_len,
+                              uint64_t size, uint64_t offset, uint64_t value);
+
+/* The cache wants to fill a block for this RCID and AT (at or above NA counts
+ * as 0). *allowed is 1 if the pair's mask has the block, and a matching
+ * occupancy counter goes up by 1; at 2^W - 1 it stays and becomes INVALID.
+ * Otherwise *allowed is 0 and nothing has changed. Refusals: 1 to 3, 7, 8. */
+uint64_t cbqri_capacity_fill(uint8_t *record, size_t record_len,
+                             uint8_t *masks, size_t masks_len,
+                             uint8_t *counters, size_t counters_len,
+                             uint8_t *events, size_t events_len,
+                             uint64_t rcid, uint64_t mcid, uint64_t at, uint64_t block,
+                             uint64_t *allowed);
+
+/* The cache emptied a block; no mask is asked. A matching occupancy counter
+ * goes down by 1; at 0 it stays and becomes INVALID. INVALID lasts until an
+ * event other than 0 is configured, or a reset. Refusals: 1 to 3, 7, 8. */
+uint64_t cbqri_capacity_evict(uint8_t *record, size_t record_len,
+                              uint8_t *masks, size_t masks_len,
+                              uint8_t *counters, size_t counters_len,
+                              uint8_t *events, size_t events_len,
+                              uint64_t rcid, uint64_t mcid, uint64_t at, uint64_t block);
+
+#ifdef __cplusplus
+}
+#endif
+
+#endif

@@ -1,0 +1,209 @@
+use crate::{ffi, table_len, Refusal};
+
+/// Set-up of a bandwidth controller.
+#[derive(Clone, Copy, Debug, PartialEq, Eq)]
+pub struct BandwidthSetup {
+    /// Bandwidth blocks, 1 to 65,535.
+    pub nbwblks: u64,
+    /// Blocks that can be reserved, 1 to NBWBLKS.
+    pub mrbwb: u64,
+    /// RCIDs, 1 to 256.
+    pub nr: u64,
+    /// Access types, 1 to 8.
+    pub na: u64,
+    /// MCIDs, 1 to 256.
+    pub nm: u64,
+    /// Bytes that a block is worth in a window, 1 to 65,536.
+    pub q: u64,
+    /// Width of a counter in bits, 24 to 62.
+    pub w: u64,
+}
+
+/// Whether a request reads or writes.
+#[derive(Clone, Copy, Debug, PartialEq, Eq)]
+pub enum Kind {
+    /// Kind 0 of the C interface.
+    Read,
+    /// Kind 1; the C interface takes any other number too.
+    Write,
+}
+
+/// Record and tables of a bandwidth controller as little-endian bytes, in the
+/// layout of `cbqri.h`.
+#[derive(Clone, Debug, PartialEq, Eq)]
+pub struct BandwidthBuffers {
+    /// Set-up, registers and the bytes that the pool gave.
+    pub record: Vec<u8>,
+    /// Settings in force, 4 bytes for each pair of RCID and AT.
+    pub active: Vec<u8>,
+    /// Settings configured, likewise.
+    pub configured: Vec<u8>,
+    /// Bytes used of the reservations, likewise.
+    pub used: Vec<u8>,
+    /// Counter words, 8 bytes for each MCID.
+    pub counters: Vec<u8>,
+    /// Counter settings, 2 bytes for each MCID.
+    pub events: Vec<u8>,
+}
+
+impl BandwidthBuffers {
+    fn new(setup: &BandwidthSetup) -> BandwidthBuffers {
+        let pairs = table_len(4, setup.nr, setup.na);
+        BandwidthBuffers {
+            record: vec![0; 96],
+            active: vec![0; pairs],
+            configured: vec![0; pairs],
+            used: vec![0; pairs],
+            counters: vec![0; table_len(8, setup.nm, 1)],
+            events: vec![0; table_len(2, setup.nm, 1)],
+        }
+    }
+}
+
+/// Calls a function of the C interface with all buffers in their order.
+///
+/// Safety of each use: the pointers and lengths are those of live vectors that
+/// do not overlap, and the numbers handed back go to locals.
+macro_rules! call {
+    ($name:ident($($before:expr),*; $b:expr, $ptr:ident; $($after:expr),*)) => {
+        Refusal::check(unsafe {
+            ffi::$name(
+                $($before,)*
+                $b.record.$ptr(), $b.record.len(),
+                $b.active.$ptr(), $b.active.len(),
+                $b.configured.$ptr(), $b.configured.len(),
+                $b.used.$ptr(), $b.used.len(),
+                $b.counters.$ptr(), $b.counters.len(),
+                $b.events.$ptr(), $b.events.len(),
+                $($after,)*
+            )
+        })
+    };
+}
+
+/// A bandwidth controller.
+#[derive(Clone, Debug, PartialEq, Eq)]
+pub struct Bandwidth {
+    buffers: BandwidthBuffers,
+}
+
+impl Bandwidth {
+    /// A controller after a reset with this set-up. Refusal: `Setup`.
+    pub fn new(setup: BandwidthSetup) -> Result<Bandwidth, Refusal> {
+        let mut buffers = BandwidthBuffers::new(&setup);
+        let s = &setup;
+        call!(cbqri_bandwidth_reset(s.nbwblks, s.mrbwb, s.nr, s.na, s.nm, s.q, s.w;
+            buffers, as_mut_ptr;))?;
+        Ok(Bandwidth { buffers })
+    }
+
+    /// Resets the controller with this set-up: RCID 0 with AT 0 holds MRBWB
+    /// blocks with Mweight 1, its other ATs share AT 0, and nothing else is
+    /// set. Refusal: `Setup`; the controller then stays as it was.
+    pub fn reset(&mut self, setup: BandwidthSetup) -> Result<(), Refusal> {
+        *self = Bandwidth::new(setup)?;
+        Ok(())
+    }
+
+    /// A controller from saved buffers. Refusals: `Setup`, `Length`, `Unlawful`.
+    ///
+    /// ```
+    /// use cbqri::{Bandwidth, BandwidthSetup, Refusal};
+    ///
+    /// let setup = BandwidthSetup { nbwblks: 9, mrbwb: 9, nr: 2, na: 1, nm: 1, q: 1, w: 24 };
+    /// let bw = Bandwidth::new(setup).unwrap();
+    /// let mut saved = bw.buffers().clone();
+    /// assert_eq!(Bandwidth::from_buffers(saved.clone()).as_ref(), Ok(&bw));
+    ///
+    /// saved.active[0] = 10; // more than MRBWB
+    /// assert_eq!(Bandwidth::from_buffers(saved.clone()).err(), Some(Refusal::Unlawful));
+    /// saved.used.pop();
+    /// assert_eq!(Bandwidth::from_buffers(saved).err(), Some(Refusal::Length));
+    /// ```
+    pub fn from_buffers(buffers: BandwidthBuffers) -> Result<Bandwidth, Refusal> {
+        let controller = Bandwidth { buffers };
+        controller.read(8, crate::registers::CAPABILITIES)?;
+        Ok(controller)
+    }
+
+    /// Record and tables, to be saved or looked at.
+    pub fn buffers(&self) -> &BandwidthBuffers {
+        &self.buffers
+    }
+
+    /// A driver's read of `size` bytes at `offset`. Refusals: `Size`, `Offset`.
+    pub fn read(&self, size: u64, offset: u64) -> Result<u64, Refusal> {
+        let mut value = 0;
+        call!(cbqri_bandwidth_read(; self.buffers, as_ptr; size, offset, &mut value))?;
+        Ok(value)
+    }
+
+    /// A driver's write of `size` bytes at `offset`, with the operation that it
+    /// performs. Refusals: `Size`, `Offset`, `Value`.
+    ///
+    /// ```
+    /// use cbqri::{registers as reg, Bandwidth, BandwidthSetup, Kind, Status};
+    ///
+    /// # fn main() -> Result<(), cbqri::Refusal> {
+    /// let setup = BandwidthSetup { nbwblks: 100, mrbwb: 80, nr: 4, na: 2, nm: 4, q: 64, w: 24 };
+    /// let mut bw = Bandwidth::new(setup)?;
+    /// // MCID 2 counts all bytes.
+    /// let ctl = reg::mon_ctl(reg::CONFIG_EVENT, 0, 2, reg::EVENT_BYTES, false);
+    /// bw.write(4, reg::MON_CTL, ctl)?;
+    /// assert_eq!(Status::of_mon(bw.read(8, reg::MON_CTL)?), Some(Status::Ok));
+    /// bw.request(0, 2, 0, Kind::Write, 300)?;
+    /// bw.write(4, reg::MON_CTL, reg::mon_ctl(reg::READ_COUNTER, 0, 2, 0, false))?;
+    /// assert_eq!(bw.read(8, reg::MON_CTR_VAL)?, 300);
+    /// # Ok(())
+    /// # }
+    /// ```
+    pub fn write(&mut self, size: u64, offset: u64, value: u64) -> Result<(), Refusal> {
+        call!(cbqri_bandwidth_write(; self.buffers, as_mut_ptr; size, offset, value))
+    }
+
+    /// A request for so many bytes; the result is how many are granted. An AT
+    /// at or above NA counts as 0. Refusal: `Id`.
+    ///
+    /// ```
+    /// use cbqri::{Bandwidth, BandwidthSetup, Kind, Refusal};
+    ///
+    /// let setup = BandwidthSetup { nbwblks: 100, mrbwb: 80, nr: 4, na: 2, nm: 4, q: 64, w: 24 };
+    /// let mut bw = Bandwidth::new(setup).unwrap();
+    /// // 80 blocks of 64 bytes are reserved for RCID 0, and 20 are the pool.
+    /// assert_eq!(bw.request(0, 0, 1, Kind::Read, 6000), Ok(6000));
+    /// assert_eq!(bw.request(0, 0, 0, Kind::Read, 6000), Ok(400));
+    /// assert_eq!(bw.request(1, 0, 0, Kind::Read, 1), Ok(0));
+    /// assert_eq!(bw.request(4, 0, 0, Kind::Read, 1), Err(Refusal::Id));
+    /// ```
+    pub fn request(
+        &mut self,
+        rcid: u64,
+        mcid: u64,
+        at: u64,
+        kind: Kind,
+        bytes: u32,
+    ) -> Result<u64, Refusal> {
+        let kind = u64::from(kind == Kind::Write);
+        let mut granted = 0;
+        call!(cbqri_bandwidth_request(; self.buffers, as_mut_ptr;
+            rcid, mcid, at, kind, bytes, &mut granted))?;
+        Ok(granted)
+    }
+
+    /// Ends the window: configured settings come into force, and reservations
+    /// and pool are whole again.
+    ///
+    /// ```
+    /// use cbqri::{Bandwidth, BandwidthSetup, Kind};
+    ///
+    /// let setup = BandwidthSetup { nbwblks: 10, mrbwb: 10, nr: 1, na: 1, nm: 1, q: 1, w: 24 };
+    /// let mut bw = Bandwidth::new(setup).unwrap();
+    /// assert_eq!(bw.request(0, 0, 0, Kind::Read, 99), Ok(10));
+    /// assert_eq!(bw.request(0, 0, 0, Kind::Read, 99), Ok(0));
+    /// bw.end_window().unwrap();
+    /// assert_eq!(bw.request(0, 0, 0, Kind::Read, 99), Ok(10));
+    /// ```
+    pub fn end_window(&mut self) -> Result<(), Refusal> {
+        call!(cbqri_bandwidth_end_window(; self.buffers, as_mut_ptr;))
+    }
+}

@@ -1,0 +1,167 @@
+use crate::{ffi, table_len, Refusal};
+
+/// Set-up of a capacity controller.
+#[derive(Clone, Copy, Debug, PartialEq, Eq)]
+pub struct CapacitySetup {
+    /// Capacity blocks, 1 to 64.
+    pub ncblks: u64,
+    /// RCIDs, 1 to 256.
+    pub nr: u64,
+    /// Access types, 1 to 8.
+    pub na: u64,
+    /// MCIDs, 1 to 256.
+    pub nm: u64,
+    /// Width of a counter in bits, 24 to 62.
+    pub w: u64,
+}
+
+/// Record and tables of a capacity controller as little-endian bytes, in the
+/// layout of `cbqri.h`.
+#[derive(Clone, Debug, PartialEq, Eq)]
+pub struct CapacityBuffers {
+    /// Set-up and registers.
+    pub record: Vec<u8>,
+    /// Block masks, 8 bytes for each pair of RCID and AT.
+    pub masks: Vec<u8>,
+    /// Counter words, 8 bytes for each MCID.
+    pub counters: Vec<u8>,
+    /// Counter settings, 2 bytes for each MCID.
+    pub events: Vec<u8>,
+}
+
+impl CapacityBuffers {
+    fn new(setup: &CapacitySetup) -> CapacityBuffers {
+        CapacityBuffers {
+            record: vec![0; 72],
+            masks: vec![0; table_len(8, setup.nr, setup.na)],
+            counters: vec![0; table_len(8, setup.nm, 1)],
+            events: vec![0; table_len(2, setup.nm, 1)],
+        }
+    }
+}
+
+/// Calls a function of the C interface with all buffers in their order.
+///
+/// Safety of each use: the pointers and lengths are those of live vectors that
+/// do not overlap, and the numbers handed back go to locals.
+macro_rules! call {
+    ($name:ident($($before:expr),*; $b:expr, $ptr:ident; $($after:expr),*)) => {
+        Refusal::check(unsafe {
+            ffi::$name(
+                $($before,)*
+                $b.record.$ptr(), $b.record.len(),
+                $b.masks.$ptr(), $b.masks.len(),
+                $b.counters.$ptr(), $b.counters.len(),
+                $b.events.$ptr(), $b.events.len(),
+                $($after,)*
+            )
+        })
+    };
+}
+
+/// A capacity controller.
+#[derive(Clone, Debug, PartialEq, Eq)]
+pub struct Capacity {
+    buffers: CapacityBuffers,
+}
+
+impl Capacity {
+    /// A controller after a reset with this set-up. Refusal: `Setup`.
+    pub fn new(setup: CapacitySetup) -> Result<Capacity, Refusal> {
+        let mut buffers = CapacityBuffers::new(&setup);
+        let s = &setup;
+        call!(cbqri_capacity_reset(s.ncblks, s.nr, s.na, s.nm, s.w; buffers, as_mut_ptr;))?;
+        Ok(Capacity { buffers })
+    }
+
+    /// Resets the controller with this set-up: RCID 0 has every block for each
+    /// AT, and nothing else is set. Refusal: `Setup`; the controller then stays
+    /// as it was.
+    pub fn reset(&mut self, setup: CapacitySetup) -> Result<(), Refusal> {
+        *self = Capacity::new(setup)?;
+        Ok(())
+    }
+
+    /// A controller from saved buffers. Refusals: `Setup`, `Length`, `Unlawful`.
+    pub fn from_buffers(buffers: CapacityBuffers) -> Result<Capacity, Refusal> {
+        let controller = Capacity { buffers };
+        controller.read(8, crate::registers::CAPABILITIES)?;
+        Ok(controller)
+    }
+
+    /// Record and tables, to be saved or looked at.
+    pub fn buffers(&self) -> &CapacityBuffers {
+        &self.buffers
+    }
+
+    /// A driver's read of `size` bytes at `offset`. Refusals: `Size`, `Offset`.
+    ///
+    /// ```
+    /// use cbqri::{registers as reg, Capacity, CapacitySetup};
+    ///
+    /// let cc = Capacity::new(CapacitySetup { ncblks: 40, nr: 4, na: 2, nm: 4, w: 24 }).unwrap();
+    /// assert_eq!(cc.read(8, reg::CAPABILITIES), Ok(0x2801));
+    /// assert_eq!(cc.read(4, reg::CAPABILITIES + 4), Ok(0));
+    /// ```
+    pub fn read(&self, size: u64, offset: u64) -> Result<u64, Refusal> {
+        let mut value = 0;
+        call!(cbqri_capacity_read(; self.buffers, as_ptr; size, offset, &mut value))?;
+        Ok(value)
+    }
+
+    /// A driver's write of `size` bytes at `offset`, with the operation that it
+    /// performs. Refusals: `Size`, `Offset`, `Value`.
+    pub fn write(&mut self, size: u64, offset: u64, value: u64) -> Result<(), Refusal> {
+        call!(cbqri_capacity_write(; self.buffers, as_mut_ptr; size, offset, value))
+    }
+
+    /// The cache wants to fill a block; the result is whether it may. If so, a
+    /// matching occupancy counter goes up by 1. An AT at or above NA counts as
+    /// 0. Refusals: `Id`, `Block`.
+    ///
+    /// ```
+    /// use cbqri::{registers as reg, Capacity, CapacitySetup, Status};
+    ///
+    /// # fn main() -> Result<(), cbqri::Refusal> {
+    /// let mut cc = Capacity::new(CapacitySetup { ncblks: 40, nr: 4, na: 2, nm: 4, w: 24 })?;
+    /// cc.write(8, reg::BLOCK_MASK, 0x0f)?;
+    /// cc.write(8, reg::ALLOC_CTL, reg::alloc_ctl(reg::CONFIG_LIMIT, 0, 1))?;
+    /// let ctl = reg::mon_ctl(reg::CONFIG_EVENT, 0, 3, reg::EVENT_OCCUPANCY, false);
+    /// cc.write(8, reg::MON_CTL, ctl)?;
+    /// assert_eq!(cc.fill(1, 3, 0, 2), Ok(true));
+    /// assert_eq!(cc.fill(1, 3, 0, 4), Ok(false));
+    /// assert_eq!(cc.fill(1, 3, 1, 2), Ok(false));
+    ///
+    /// cc.write(8, reg::MON_CTL, reg::mon_ctl(reg::READ_COUNTER, 0, 3, 0, false))?;
+    /// assert_eq!(cc.read(8, reg::MON_CTR_VAL), Ok(1));
+    /// # Ok(())
+    /// # }
+    /// ```
+    pub fn fill(&mut self, rcid: u64, mcid: u64, at: u64, block: u64) -> Result<bool, Refusal> {
+        let mut allowed = 0;
+        call!(cbqri_capacity_fill(; self.buffers, as_mut_ptr;
+            rcid, mcid, at, block, &mut allowed))?;
+        Ok(allowed != 0)
+    }
+
+    /// The cache emptied a block: a matching occupancy counter goes down by 1.
+    /// At 0 it stays and becomes INVALID. Refusals: `Id`, `Block`.
+    ///
+    /// ```
+    /// use cbqri::{registers as reg, Capacity, CapacitySetup};
+    ///
+    /// # fn main() -> Result<(), cbqri::Refusal> {
+    /// let mut cc = Capacity::new(CapacitySetup { ncblks: 8, nr: 1, na: 1, nm: 1, w: 24 })?;
+    /// cc.write(8, reg::MON_CTL, reg::mon_ctl(reg::CONFIG_EVENT, 0, 0, 1, false))?;
+    /// cc.fill(0, 0, 0, 7)?;
+    /// cc.evict(0, 0, 0, 7)?;
+    /// cc.evict(0, 0, 0, 7)?;
+    /// cc.write(8, reg::MON_CTL, reg::mon_ctl(reg::READ_COUNTER, 0, 0, 0, false))?;
+    /// assert_eq!(cc.read(8, reg::MON_CTR_VAL), Ok(reg::CAPACITY_INVALID));
+    /// # Ok(())
+    /// # }
+    /// ```
+    pub fn evict(&mut self, rcid: u64, mcid: u64, at: u64, block: u64) -> Result<(), Refusal> {
+        call!(cbqri_capacity_evict(; self.buffers, as_mut_ptr; rcid, mcid, at, block))
+    }
+}

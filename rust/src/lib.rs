@@ -1,0 +1,190 @@
+//! A pair of RISC-V CBQRI quality-of-service controllers, as an emulator uses
+//! them: the registers that a driver sees, the requests and cache events of
+//! the emulated system, and the end of a bandwidth window.
+//!
+//! This crate wraps libcbqri.a. Set `CBQRI_LIB_DIR` to its folder when
+//! building. [`Bandwidth`] and [`Capacity`] own the record and tables that the
+//! C interface asks for; `cbqri.h` describes them byte by byte.
+//!
+//! What a caller does wrong is a [`Refusal`], and a refused call has changed
+//! nothing. What a driver does wrong shows in STATUS ([`Status`]) of the
+//! control register, and the write that carried it is `Ok`.
+//!
+//! ```
+//! use cbqri::{registers as reg, Bandwidth, BandwidthSetup, Kind, Status};
+//!
+//! # fn main() -> Result<(), cbqri::Refusal> {
+//! let setup = BandwidthSetup { nbwblks: 100, mrbwb: 80, nr: 4, na: 2, nm: 4, q: 64, w: 24 };
+//! let mut bw = Bandwidth::new(setup)?;
+//! assert_eq!(bw.read(8, reg::CAPABILITIES)?, 0x0000_0050_0000_6401);
+//!
+//! // After reset RCID 0 holds all 80 blocks, so RCID 1 cannot have 10.
+//! bw.write(8, reg::BW_ALLOC, 10)?;
+//! bw.write(8, reg::ALLOC_CTL, reg::alloc_ctl(reg::CONFIG_LIMIT, 0, 1))?;
+//! assert_eq!(Status::of_alloc(bw.read(8, reg::ALLOC_CTL)?), Some(Status::BadLimit));
+//!
+//! // RCID 0 down to 30 blocks, then 30 for RCID 1 AT 0, shared by its AT 1.
+//! for (rcid, at, word) in [
+//!     (0, 0, reg::holder(30, 0)),
+//!     (1, 0, reg::holder(30, 5)),
+//!     (2, 0, reg::holder(20, 0)),
+//!     (1, 1, reg::sharer(0)),
+//! ] {
+//!     bw.write(8, reg::BW_ALLOC, word)?;
+//!     bw.write(8, reg::ALLOC_CTL, reg::alloc_ctl(reg::CONFIG_LIMIT, at, rcid))?;
+//!     assert_eq!(Status::of_alloc(bw.read(8, reg::ALLOC_CTL)?), Some(Status::Ok));
+//! }
+//!
+//! // Settings come into force when the window ends.
+//! assert_eq!(bw.request(1, 0, 0, Kind::Read, 10)?, 0);
+//! bw.end_window()?;
+//! // 1,920 bytes from the reservation and 80 from the pool of 1,280.
+//! assert_eq!(bw.request(1, 0, 1, Kind::Read, 2000)?, 2000);
+//! assert_eq!(bw.request(1, 0, 0, Kind::Read, 2000)?, 1200);
+//! # Ok(())
+//! # }
+//! ```
+
+mod bandwidth;
+mod capacity;
+mod ffi;
+pub mod registers;
+
+pub use bandwidth::{Bandwidth, BandwidthBuffers, BandwidthSetup, Kind};
+pub use capacity::{Capacity, CapacityBuffers, CapacitySetup};
+
+use std::fmt;
+
+/// Why a call was refused, in the order in which it is checked. A refused call
+/// has changed nothing.
+///
+/// ```
+/// use cbqri::{Capacity, CapacitySetup, Refusal};
+///
+/// let wrong = CapacitySetup { ncblks: 65, nr: 4, na: 1, nm: 4, w: 24 };
+/// assert_eq!(Capacity::new(wrong).err(), Some(Refusal::Setup));
+///
+/// let mut cc = Capacity::new(CapacitySetup { ncblks: 64, ..wrong }).unwrap();
+/// assert_eq!(cc.read(2, 0), Err(Refusal::Size));
+/// assert_eq!(cc.read(8, 36), Err(Refusal::Offset));
+/// assert_eq!(cc.write(4, 32, 1 << 32), Err(Refusal::Value));
+/// assert_eq!(cc.fill(4, 0, 0, 0), Err(Refusal::Id));
+/// assert_eq!(cc.fill(0, 0, 0, 64), Err(Refusal::Block));
+/// assert_eq!(Refusal::Block as u64, 8);
+/// ```
+#[derive(Clone, Copy, Debug, PartialEq, Eq, Hash)]
+#[repr(u64)]
+pub enum Refusal {
+    /// The set-up lies outside its ranges, or the record has another length.
+    Setup = 1,
+    /// A table has another length than the set-up says.
+    Length = 2,
+    /// The record or a table is not lawful.
+    Unlawful = 3,
+    /// The access is neither of 4 nor of 8 bytes.
+    Size = 4,
+    /// The offset is no multiple of the size, or the access ends beyond byte 40.
+    Offset = 5,
+    /// A 4-byte write carries a value of 2^32 or more.
+    Value = 6,
+    /// RCID at or above NR, or MCID at or above NM.
+    Id = 7,
+    /// Block at or above NCBLKS.
+    Block = 8,
+}
+
+impl Refusal {
+    /// The library's answer as a result.
+    fn check(answer: u64) -> Result<(), Refusal> {
+        Err(match answer {
+            0 => return Ok(()),
+            1 => Refusal::Setup,
+            2 => Refusal::Length,
+            3 => Refusal::Unlawful,
+            4 => Refusal::Size,
+            5 => Refusal::Offset,
+            6 => Refusal::Value,
+            7 => Refusal::Id,
+            8 => Refusal::Block,
+            _ => unreachable!("libcbqri.a answers 0 to 8, not {answer}"),
+        })
+    }
+}
+
+impl fmt::Display for Refusal {
+    fn fmt(&self, f: &mut fmt::Formatter<'_>) -> fmt::Result {
+        f.write_str(match self {
+            Refusal::Setup => "set-up outside its ranges, or a record of another length",
+            Refusal::Length => "a table of another length than the set-up says",
+            Refusal::Unlawful => "record or table not lawful",
+            Refusal::Size => "access neither of 4 nor of 8 bytes",
+            Refusal::Offset => "offset no multiple of the size, or the end beyond byte 40",
+            Refusal::Value => "4-byte write of a value of 2^32 or more",
+            Refusal::Id => "RCID at or above NR, or MCID at or above NM",
+            Refusal::Block => "block at or above NCBLKS",
+        })
+    }
+}
+
+impl std::error::Error for Refusal {}
+
+/// STATUS of a control register: how its last operation ended. An operation
+/// that did not end in `Ok` has changed nothing but its control register.
+///
+/// ```
+/// use cbqri::Status;
+///
+/// // The same number means another thing in alloc_ctl and in mon_ctl.
+/// assert_eq!(Status::of_alloc(0x0000_0004_0000_0041), Some(Status::BadAt));
+/// assert_eq!(Status::of_mon(0x0000_0004_0040_0201), Some(Status::BadEvent));
+/// // After a reset there was no operation.
+/// assert_eq!(Status::of_alloc(0), None);
+/// ```
+#[derive(Clone, Copy, Debug, PartialEq, Eq, Hash)]
+pub enum Status {
+    /// 1: done.
+    Ok,
+    /// 2: no such operation.
+    BadOp,
+    /// 3: RCID at or above NR, or MCID at or above NM.
+    BadId,
+    /// AT at or above NA: 4 in alloc_ctl, 5 in mon_ctl (there only with ATV 1).
+    BadAt,
+    /// 5 in alloc_ctl: CONFIG_LIMIT cannot take bw_alloc or block_mask.
+    BadLimit,
+    /// 4 in mon_ctl: no such EVT_ID.
+    BadEvent,
+}
+
+impl Status {
+    /// STATUS of an alloc_ctl word; `None` if no operation ends so.
+    pub fn of_alloc(alloc_ctl: u64) -> Option<Status> {
+        Status::of(alloc_ctl, Status::BadAt, Status::BadLimit)
+    }
+
+    /// STATUS of a mon_ctl word; `None` if no operation ends so.
+    pub fn of_mon(mon_ctl: u64) -> Option<Status> {
+        Status::of(mon_ctl, Status::BadEvent, Status::BadAt)
+    }
+
+    fn of(ctl: u64, four: Status, five: Status) -> Option<Status> {
+        Some(match ctl >> 32 & 0x7f {
+            1 => Status::Ok,
+            2 => Status::BadOp,
+            3 => Status::BadId,
+            4 => four,
+            5 => five,
+            _ => return None,
+        })
+    }
+}
+
+/// A table's length, or 0 for numbers outside the ranges: the library then
+/// refuses the set-up, and nothing large is allocated.
+fn table_len(width: usize, rows: u64, columns: u64) -> usize {
+    if rows <= 256 && columns <= 8 {
+        width * rows as usize * columns as usize
+    } else {
+        0
+    }
+}

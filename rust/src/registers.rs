@@ -1,0 +1,73 @@
+//! Register offsets, operations, events and words, for both controllers.
+//!
+//! ```
+//! use cbqri::registers as reg;
+//!
+//! assert_eq!(reg::alloc_ctl(reg::CONFIG_LIMIT, 1, 1), 0x121);
+//! assert_eq!(reg::mon_ctl(reg::CONFIG_EVENT, 0, 2, reg::EVENT_BYTES, false), 0x100201);
+//! assert_eq!(reg::holder(30, 5), 0x0050_001e);
+//! assert_eq!(reg::sharer(1), 0x9000_0000);
+//! ```
+
+/// VER, and NBWBLKS and MRBWB, or NCBLKS and FRCID; read-only.
+pub const CAPABILITIES: u64 = 0;
+/// OP 4:0, AT 7:5, MCID 19:8, EVT_ID 27:20, ATV 28, STATUS 38:32, BUSY 39.
+pub const MON_CTL: u64 = 8;
+/// The counter that READ_COUNTER copied; read-only.
+pub const MON_CTR_VAL: u64 = 16;
+/// OP 4:0, AT 7:5, RCID 19:8, STATUS 38:32, BUSY 39.
+pub const ALLOC_CTL: u64 = 24;
+/// Bandwidth: Rbwb 15:0, Mweight 27:20, sharedAT 30:28, useShared 31.
+pub const BW_ALLOC: u64 = 32;
+/// Capacity: a bit for each block.
+pub const BLOCK_MASK: u64 = 32;
+/// Bytes of a controller's registers.
+pub const SPAN: u64 = 40;
+
+/// OP of alloc_ctl: store bw_alloc or block_mask for a pair of RCID and AT.
+pub const CONFIG_LIMIT: u64 = 1;
+/// OP of alloc_ctl: copy what is configured into bw_alloc or block_mask.
+pub const READ_LIMIT: u64 = 2;
+/// OP of mon_ctl: let a counter count an event.
+pub const CONFIG_EVENT: u64 = 1;
+/// OP of mon_ctl: copy a counter into mon_ctr_val.
+pub const READ_COUNTER: u64 = 2;
+
+/// Stops the counter; it keeps value and flags.
+pub const EVENT_NONE: u64 = 0;
+/// Bandwidth: bytes read and written.
+pub const EVENT_BYTES: u64 = 1;
+/// Bandwidth: bytes read.
+pub const EVENT_READS: u64 = 2;
+/// Bandwidth: bytes written.
+pub const EVENT_WRITES: u64 = 3;
+/// Capacity: blocks filled and not emptied.
+pub const EVENT_OCCUPANCY: u64 = 1;
+
+/// INVALID of a bandwidth counter.
+pub const BANDWIDTH_INVALID: u64 = 1 << 62;
+/// OVF of a bandwidth counter.
+pub const BANDWIDTH_OVF: u64 = 1 << 63;
+/// INVALID of a capacity counter.
+pub const CAPACITY_INVALID: u64 = 1 << 63;
+
+/// A word for alloc_ctl.
+pub fn alloc_ctl(op: u64, at: u64, rcid: u64) -> u64 {
+    (op & 0x1f) | (at & 7) << 5 | (rcid & 0xfff) << 8
+}
+
+/// A word for mon_ctl.
+pub fn mon_ctl(op: u64, at: u64, mcid: u64, evt_id: u64, atv: bool) -> u64 {
+    (op & 0x1f) | (at & 7) << 5 | (mcid & 0xfff) << 8 | (evt_id & 0xff) << 20 | u64::from(atv) << 28
+}
+
+/// A word for bw_alloc: the pair holds Rbwb blocks. With Mweight 0 the pool
+/// gives it nothing.
+pub fn holder(rbwb: u16, mweight: u8) -> u64 {
+    u64::from(rbwb) | u64::from(mweight) << 20
+}
+
+/// A word for bw_alloc: the pair uses the blocks of another AT of its RCID.
+pub fn sharer(shared_at: u64) -> u64 {
+    1 << 31 | (shared_at & 7) << 28
+}
