@@ -1,5 +1,5 @@
 # make test: prove every crate and run every test; the last line is 'N passed, M failed'.
-.PHONY: test run fmt clean
+.PHONY: test run soak bench fmt clean
 
 test:
 	@tests/run
@@ -8,6 +8,14 @@ test:
 run:
 	@rt check listing > target/listing.log 2>&1 || { cat target/listing.log; exit 1; }
 	@target/bin/listing < crates/listing/stdin
+
+# make soak: the long tests, after make test; MINUTES=10
+soak:
+	@tests/soak
+
+# make bench: the library beside plain and tuned C, after make test; the capacity rows are plain C's own until the library has them
+bench:
+	@$(MAKE) --no-print-directory -C bench LIB=$(CURDIR)/target/outside-library/libcbqri.a
 
 fmt:
 	rt fmt
