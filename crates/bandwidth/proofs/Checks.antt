@@ -2,8 +2,6 @@
 use mathlib.Core.Path.{_≡_, sym, ap, subst, _∙_}
 use mathlib.Core.Bool.{Bool, _&&_}
 use Prim.Native.Nat.{ℕ, _-_, _*_, _<_, _^_}
-use native.Mathlib.Nat.{mod-eq-of-lt}
-use lib.Bits.{and-mask}
 use lib.Dec.{T, leb, eqb, eqb→eq}
 use lib.ListN.{getD}
 use Rattle.fields.specs.Layout.{kept}
@@ -14,6 +12,7 @@ use Rattle.tables.specs.Below.{allBelow}
 use Rattle.tables.proofs.Tests.{and-l, and-r, and-in, eqb-in, same-test}
 use Rattle.monitor.specs.Monitor.{monWord, statusOf, counterOk, settingOk, monitorOk}
 use Rattle.monitor.specs.Bytes.{lastEvent}
+use Rattle.monitor.proofs.Forms.{named-all}
 use Rattle.bandwidth_model.specs.Rules.{Setup, pairs, reserved, total, poolOf}
 use Rattle.bandwidth_model.specs.Facts.{Sized}
 use Rattle.bandwidth_model.specs.Model.{State, tableOk, usageOk, registersOk, lengthsOk, wellFormed, stateChecks}
@@ -70,10 +69,6 @@ by-parts ok p p′ a b u k e v r c regs ctl tv q f g h =
     let tc : T ctl = subst T (sym h) (search (and-l, and-r) depth 8) in
     search and-in depth 6)
 
--- every word below 2^64 has only named bits of a bandwidth counter
-value-kept : (v : ℕ) → v < 2 ^ 64 → v ≡ kept reg.bandwidthCounter v
-value-kept v h = sym (bandwidthCounter-kept v ∙ and-mask v 64 ∙ mod-eq-of-lt h)
-
 module _ (s : State) where
   abbrev tables : Bool
   tables = tablesOk (s .setup) (s .usage .active) (s .alloc .configured) (s .usage .used) (s .monitor .counters) (s .monitor .events)
@@ -93,7 +88,7 @@ module _ (s : State) where
       let ks = allBelow (su .nm) (λ i. counterOk reg.bandwidthCounter reg.bandwidthCtr (su .w) (getD (m .counters) i 0)) in
       let es = allBelow (su .nm) (λ i. settingOk (su .na) lastEvent (getD (m .events) i 0)) in
       let vk = eqb (m .value) (kept reg.bandwidthCounter (m .value)) in
-      let vt : T vk = eqb-in (m .value) (kept reg.bandwidthCounter (m .value)) (value-kept (m .value) v) in
+      let vt : T vk = eqb-in (m .value) (kept reg.bandwidthCounter (m .value)) (named-all reg.bandwidthCounter bandwidthCounter-kept (m .value) v) in
       let same : T ok → leb (u .pool) (left * su .q) ≡ leb (u .pool) ((su .nbwblks - total (u .active)) * su .q) =
       λ t. ap (λ (x : ℕ). leb (u .pool) (x * su .q)) (l ∙ ap (λ (x : ℕ). su .nbwblks - x) (f t)) in
       let whole : ok ≡ (ta && tc && us && ks && es) = e in
