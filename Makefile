@@ -6,7 +6,7 @@ test:
 
 # make run: prove and build the listing program, and run document 01's worked example
 run:
-	@rt check listing > target/listing.log 2>&1 || { cat target/listing.log; exit 1; }
+	@mkdir -p target && rt check listing > target/listing.log 2>&1 || { cat target/listing.log; exit 1; }
 	@target/bin/listing < crates/listing/stdin
 
 # make soak: the long tests, after make test; MINUTES=10

@@ -14,8 +14,8 @@ use Rattle.print.specs.Print.{lineOf, Wrote}
 use Rattle.session.specs.Session.{Controller, Turn, turn, turnOf}
 use Rattle.session.specs.View.{controllerOf}
 use Rattle.bandwidth.specs.declared.Record.{Record}
-use Rattle.stream.specs.Output.{afterLine, printedFor, outputOf}
-use Rattle.stream.specs.Stream.{Stream, stream, streamOf, byte, feedOf, lastPrinted, Answered, Fed, Finished}
+use Rattle.stream.specs.Output.{afterLine, printedFor}
+use Rattle.stream.specs.Stream.{Stream, stream, byte, feedOf, lastPrinted, Answered, Fed, Finished}
 use Rattle.stream.proofs.Whole.{fed-after, finished-after}
 
 -- parse, act and print are one answer
