@@ -6,7 +6,7 @@ use replies::Told;
 use replies::refusal_number;
 ghost use mathlib.Core.Path.{_≡_};
 ghost use lib.ListN.{length};
-ghost use Rattle.words.specs.Words.{wordsOf, bytesOfAll, Holds};
+ghost use Rattle.words.specs.Words.{wordsOf, bytesOfAll};
 ghost use Rattle.bandwidth_model.specs.Calls.{read};
 ghost use Rattle.replies.specs.Replies.{reply};
 ghost use Rattle.bandwidth_bytes.specs.Bytes.{lent, stateBy, stateOf, stepOn};

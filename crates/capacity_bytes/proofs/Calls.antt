@@ -20,7 +20,7 @@ use Rattle.capacity_model.specs.Calls.{Call, reset, read, Answer, refused}
 use Rattle.capacity_model.specs.Model.{State, Outcome, lengthsOk, checks, perform, refusal, step}
 use Rattle.capacity.specs.declared.Record.{Record}
 use Rattle.capacity.specs.View.{state, outcome}
-use Rattle.capacity_bytes.specs.Bytes.{Lent, lent, recordOf, stateBy, stateOf, bytesOf, Reply, replyTo, setupFor, byteRefusal, stepOn, stepBytes}
+use Rattle.capacity_bytes.specs.Bytes.{Lent, lent, recordOf, stateOf, bytesOf, Reply, replyTo, setupFor, byteRefusal, stepOn, stepBytes}
 use Rattle.capacity_bytes.specs.View.{wordsIn, Fits, Words}
 
 -- ---- one call on bytes

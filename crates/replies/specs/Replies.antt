@@ -3,7 +3,7 @@ use mathlib.Core.Bool.{Bool, not, cond}
 use mathlib.Core.List.{List, [], _∷_}
 use Prim.Native.Nat.{ℕ}
 use lib.Dec.{eqb}
-use Rattle.access.specs.Checks.{Check, _gives_, first}
+use Rattle.access.specs.Checks.{Check, _gives_}
 use Rattle.runs.specs.Runs.{Outcome}
 
 -- the result, what goes to the value, the grant or the allowance, and the bytes at the end
