@@ -13,9 +13,9 @@ run:
 soak:
 	@tests/soak
 
-# make bench: the library beside plain and tuned C, after make test; the capacity rows are plain C's own until the library has them
+# make bench: the library beside plain and tuned C, after make test
 bench:
-	@$(MAKE) --no-print-directory -C bench LIB=$(CURDIR)/target/outside-library/libcbqri.a
+	@$(MAKE) --no-print-directory -C bench LIB=$(CURDIR)/target/staticlib/libcbqri.a
 
 fmt:
 	rt fmt

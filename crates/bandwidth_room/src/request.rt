@@ -1,0 +1,158 @@
+// Requests on the bandwidth controller.
+use bandwidth_bytes::lent::record_refusal;
+use bandwidth_bytes::request::request_in;
+use replies::Told;
+use rooms::few_counters;
+use rooms::few_events;
+use rooms::few_settings;
+use rooms::most_counters;
+use rooms::most_events;
+use rooms::most_settings;
+ghost use mathlib.Core.Path.{_≡_};
+ghost use Rattle.bandwidth_model.specs.Calls.{request};
+ghost use Rattle.replies.specs.Replies.{reply};
+ghost use Rattle.bandwidth_bytes.specs.Bytes.{lent, stateOf, stepOn, stepBytes};
+ghost use Rattle.bandwidth_bytes.specs.View.{Sized};
+
+fn request_few(
+    record: &mut [u8],
+    active: &[u8],
+    configured: &[u8],
+    used: &mut [u8],
+    counters: &mut [u8],
+    events: &[u8],
+    rcid: u64,
+    mcid: u64,
+    at: u64,
+    kind: u64,
+    bytes: u32,
+) -> Told
+    requires { ⌜ Sized (lent (now «record») (now active) (now configured) (now used) (now counters) (now events)) 128 64 ⌝ }
+    ensures { λ r. ⌜ reply (r .number) (r .value) (lent (now («record» .exit)) (now (active .entry)) (now (configured .entry)) (now (used .exit)) (now (counters .exit)) (now (events .entry)))
+        ≡ stepOn (lent (now («record» .entry)) (now (active .entry)) (now (configured .entry)) (now (used .entry)) (now (counters .entry)) (now (events .entry))) (stateOf (lent (now («record» .entry)) (now (active .entry)) (now (configured .entry)) (now (used .entry)) (now (counters .entry)) (now (events .entry)))) (request rcid mcid at kind bytes) ⌝ }
+{
+    let pairs = active.len() / 4;
+    let nm = events.len() / 2;
+    let mut a = few_settings();
+    let mut c = few_settings();
+    let mut u = few_settings();
+    let mut n = few_counters();
+    let mut e = few_events();
+    request_in(
+        record,
+        active,
+        configured,
+        used,
+        counters,
+        events,
+        &mut a[..pairs],
+        &mut c[..pairs],
+        &mut u[..pairs],
+        &mut n[..nm],
+        &mut e[..nm],
+        rcid,
+        mcid,
+        at,
+        kind,
+        bytes,
+    )
+}
+
+fn request_most(
+    record: &mut [u8],
+    active: &[u8],
+    configured: &[u8],
+    used: &mut [u8],
+    counters: &mut [u8],
+    events: &[u8],
+    rcid: u64,
+    mcid: u64,
+    at: u64,
+    kind: u64,
+    bytes: u32,
+) -> Told
+    requires { ⌜ Sized (lent (now «record») (now active) (now configured) (now used) (now counters) (now events)) 2048 256 ⌝ }
+    ensures { λ r. ⌜ reply (r .number) (r .value) (lent (now («record» .exit)) (now (active .entry)) (now (configured .entry)) (now (used .exit)) (now (counters .exit)) (now (events .entry)))
+        ≡ stepOn (lent (now («record» .entry)) (now (active .entry)) (now (configured .entry)) (now (used .entry)) (now (counters .entry)) (now (events .entry))) (stateOf (lent (now («record» .entry)) (now (active .entry)) (now (configured .entry)) (now (used .entry)) (now (counters .entry)) (now (events .entry)))) (request rcid mcid at kind bytes) ⌝ }
+{
+    let pairs = active.len() / 4;
+    let nm = events.len() / 2;
+    let mut a = most_settings();
+    let mut c = most_settings();
+    let mut u = most_settings();
+    let mut n = most_counters();
+    let mut e = most_events();
+    request_in(
+        record,
+        active,
+        configured,
+        used,
+        counters,
+        events,
+        &mut a[..pairs],
+        &mut c[..pairs],
+        &mut u[..pairs],
+        &mut n[..nm],
+        &mut e[..nm],
+        rcid,
+        mcid,
+        at,
+        kind,
+        bytes,
+    )
+}
+
+pub fn request_bytes(
+    record: &mut [u8],
+    active: &[u8],
+    configured: &[u8],
+    used: &mut [u8],
+    counters: &mut [u8],
+    events: &[u8],
+    rcid: u64,
+    mcid: u64,
+    at: u64,
+    kind: u64,
+    bytes: u32,
+    granted: &mut u64,
+) -> u64
+    ensures { λ r. ⌜ reply r (now (granted .exit)) (lent (now («record» .exit)) (now (active .entry)) (now (configured .entry)) (now (used .exit)) (now (counters .exit)) (now (events .entry)))
+        ≡ stepBytes (lent (now («record» .entry)) (now (active .entry)) (now (configured .entry)) (now (used .entry)) (now (counters .entry)) (now (events .entry))) (request rcid mcid at kind bytes) ⌝ }
+{
+    *granted = 0;
+    let number = record_refusal(record, active, configured, used, counters, events);
+    if number != 0 {
+        return number;
+    }
+    let told = if (active.len() <= 512) & (events.len() <= 128) {
+        request_few(
+            record,
+            active,
+            configured,
+            used,
+            counters,
+            events,
+            rcid,
+            mcid,
+            at,
+            kind,
+            bytes,
+        )
+    } else {
+        request_most(
+            record,
+            active,
+            configured,
+            used,
+            counters,
+            events,
+            rcid,
+            mcid,
+            at,
+            kind,
+            bytes,
+        )
+    };
+    *granted = told.value;
+    told.number
+}

@@ -1,0 +1,21 @@
+-- `capacity_room::write::write_most` meets its contract.
+use borrow.Author.Needs.{needs}
+use Rattle.rooms.proofs.Parts.{part-long}
+use Rattle.capacity_room.proofs.Rooms.{fits}
+use Rattle.capacity_room.proofs.write.write_most.Statement.{statement}
+use Rattle.capacity_room.proofs.write.write_most.Tie as tie
+
+slice-aggregate-write-in : tie.Need-slice-aggregate-write-in
+slice-aggregate-write-in c = part-long _ 2048 _ (c .before .before .before .before .before .before .before .before .before .before .before .before .pre .few-pairs) (c .before .before .before .before .before .before .before .most-masks .ensures)
+
+slice-aggregate-write-in-2 : tie.Need-slice-aggregate-write-in-2
+slice-aggregate-write-in-2 c = part-long _ 256 _ (c .before .before .before .before .before .before .before .before .before .before .before .before .before .pre .few-mcids) (c .before .before .before .before .before .before .before .most-counters .ensures)
+
+slice-aggregate-write-in-3 : tie.Need-slice-aggregate-write-in-3
+slice-aggregate-write-in-3 c = part-long _ 256 _ (c .before .before .before .before .before .before .before .before .before .before .before .before .before .before .pre .few-mcids) (c .before .before .before .before .before .before .before .most-events .ensures)
+
+write-in-requires : tie.Need-write-in-requires
+write-in-requires c κs = fits _ 2048 256 _ _ _ (c .before .before .before .before .before .before .before .before .before .before .before .before .before .before .pre) (c .before .before .before .before .before .before .before .before .before .most-masks .ensures) (c .before .before .before .before .before .before .before .before .most-counters .ensures) (c .before .before .before .before .before .before .before .most-events .ensures)
+
+pub write-most-spec : {M : Type 1} → statement M
+write-most-spec = tie.close (tie.spec (λ c κs. search needs) (λ c κs. search needs) (λ c κs. search needs) (λ c. search needs) slice-aggregate-write-in (λ c. search needs) slice-aggregate-write-in-2 (λ c. search needs) slice-aggregate-write-in-3 write-in-requires (λ c. search needs) (λ c. search needs) (λ c. search needs) (λ c. search needs) (λ c. search needs))

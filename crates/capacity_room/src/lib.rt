@@ -1,0 +1,5 @@
+// The capacity controller on lent bytes: each call picks room for the words of the tables by their lengths.
+pub mod blocks;
+pub mod read;
+pub mod reset;
+pub mod write;

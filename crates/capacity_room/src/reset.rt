@@ -1,0 +1,104 @@
+// Resets of the capacity controller.
+use capacity_bytes::lent::byte_refusal;
+use capacity_bytes::reset::reset_in;
+use masks::Setup;
+use rooms::few_counters;
+use rooms::few_events;
+use rooms::few_masks;
+use rooms::most_counters;
+use rooms::most_events;
+use rooms::most_masks;
+ghost use mathlib.Core.Path.{_≡_};
+ghost use Rattle.capacity_model.specs.Calls.{reset};
+ghost use Rattle.replies.specs.Replies.{reply};
+ghost use Rattle.capacity_bytes.specs.Bytes.{lent, setupBy, stateOf, stepOn, stepBytes};
+ghost use Rattle.capacity_bytes.specs.View.{Sized};
+ghost use Rattle.masks.specs.View.{setupOf};
+
+fn reset_few(
+    record: &mut [u8],
+    masks: &mut [u8],
+    counters: &mut [u8],
+    events: &mut [u8],
+    setup: Setup,
+) -> u64
+    requires { ⌜ Sized (lent (now «record») (now masks) (now counters) (now events)) 128 64 ⌝ }
+    ensures { λ r. ⌜ reply r 0 (lent (now («record» .exit)) (now (masks .exit)) (now (counters .exit)) (now (events .exit)))
+        ≡ stepOn (lent (now («record» .entry)) (now (masks .entry)) (now (counters .entry)) (now (events .entry))) (stateOf (lent (now («record» .entry)) (now (masks .entry)) (now (counters .entry)) (now (events .entry)))) (reset (setupOf setup)) ⌝ }
+{
+    let pairs = masks.len() / 8;
+    let nm = events.len() / 2;
+    let mut m = few_masks();
+    let mut n = few_counters();
+    let mut e = few_events();
+    reset_in(
+        record,
+        masks,
+        counters,
+        events,
+        &mut m[..pairs],
+        &mut n[..nm],
+        &mut e[..nm],
+        setup,
+    )
+}
+
+fn reset_most(
+    record: &mut [u8],
+    masks: &mut [u8],
+    counters: &mut [u8],
+    events: &mut [u8],
+    setup: Setup,
+) -> u64
+    requires { ⌜ Sized (lent (now «record») (now masks) (now counters) (now events)) 2048 256 ⌝ }
+    ensures { λ r. ⌜ reply r 0 (lent (now («record» .exit)) (now (masks .exit)) (now (counters .exit)) (now (events .exit)))
+        ≡ stepOn (lent (now («record» .entry)) (now (masks .entry)) (now (counters .entry)) (now (events .entry))) (stateOf (lent (now («record» .entry)) (now (masks .entry)) (now (counters .entry)) (now (events .entry)))) (reset (setupOf setup)) ⌝ }
+{
+    let pairs = masks.len() / 8;
+    let nm = events.len() / 2;
+    let mut m = most_masks();
+    let mut n = most_counters();
+    let mut e = most_events();
+    reset_in(
+        record,
+        masks,
+        counters,
+        events,
+        &mut m[..pairs],
+        &mut n[..nm],
+        &mut e[..nm],
+        setup,
+    )
+}
+
+pub fn reset_bytes(
+    ncblks: u64,
+    nr: u64,
+    na: u64,
+    nm: u64,
+    w: u64,
+    record: &mut [u8],
+    masks: &mut [u8],
+    counters: &mut [u8],
+    events: &mut [u8],
+) -> u64
+    ensures { λ r. ⌜ reply r 0 (lent (now («record» .exit)) (now (masks .exit)) (now (counters .exit)) (now (events .exit)))
+        ≡ stepBytes (lent (now («record» .entry)) (now (masks .entry)) (now (counters .entry)) (now (events .entry))) (reset (setupBy ncblks nr na nm w)) ⌝ }
+{
+    let setup = Setup {
+        ncblks,
+        nr,
+        na,
+        nm,
+        w,
+    };
+    let number = byte_refusal(setup, record, masks, counters, events);
+    if number != 0 {
+        return number;
+    }
+    if (masks.len() <= 1024) & (events.len() <= 128) {
+        reset_few(record, masks, counters, events, setup)
+    } else {
+        reset_most(record, masks, counters, events, setup)
+    }
+}
