@@ -1,5 +1,5 @@
 # make test: prove every crate and run every test; the last line is 'N passed, M failed'.
-.PHONY: test run soak bench fmt clean
+.PHONY: test run soak bench firmware firmware-run fmt clean
 
 test:
 	@tests/run
@@ -16,6 +16,14 @@ soak:
 # make bench: the library beside plain and tuned C, after make test
 bench:
 	@$(MAKE) --no-print-directory -C bench LIB=$(CURDIR)/target/staticlib/libcbqri.a
+
+# make firmware: target/firmware/libcbqri.a for rv64, of the module that was proved
+firmware:
+	@$(MAKE) --no-print-directory -C firmware
+
+# make firmware-run: the example emulator on qemu's bare board
+firmware-run:
+	@$(MAKE) --no-print-directory -C firmware run
 
 fmt:
 	rt fmt

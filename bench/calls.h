@@ -1,0 +1,366 @@
+/*
+ * Random set-ups, states, damage and calls for both controllers, from a seed:
+ * the same on every compiler and machine with little-endian words.
+ */
+#ifndef CALLS_H
+#define CALLS_H
+
+#include "interface.h"
+
+#include <string.h>
+
+static uint64_t seed = 1;
+
+/* A number from 0 to below - 1. */
+static uint64_t upto(uint64_t below)
+{
+    return next_random(&seed) % below;
+}
+
+/* A number of any length up to so many bits. */
+static uint64_t random_word(unsigned bits)
+{
+    uint64_t word = next_random(&seed) >> (64 - bits);
+    return word >> upto(bits);
+}
+
+static int one_in(uint64_t n)
+{
+    return upto(n) == 0;
+}
+
+/* One of a list. At most one entry may draw a number, since C leaves open in
+ * which order the entries are worked out. */
+static uint64_t pick(const uint64_t *list, size_t length)
+{
+    return list[upto(length)];
+}
+#define PICK(...)                                                              \
+    pick((const uint64_t[]){__VA_ARGS__},                                      \
+         sizeof((const uint64_t[]){__VA_ARGS__}) / sizeof(uint64_t))
+
+/* Set-ups */
+
+struct setup {
+    uint64_t nbwblks, mrbwb, ncblks, nr, na, nm, q, w;
+};
+
+static struct setup random_setup(void)
+{
+    struct setup s;
+    s.nbwblks = PICK(1, 2, 10, 100, 1000, 65535, 1 + upto(65535));
+    s.mrbwb = one_in(3) ? s.nbwblks : 1 + upto(s.nbwblks);
+    s.ncblks = PICK(1, 2, 31, 32, 33, 63, 64, 1 + upto(64));
+    s.nr = PICK(1, 2, 4, 5, 8, 17, 256, 1 + upto(one_in(2) ? 40 : 256));
+    s.na = 1 + upto(8);
+    s.nm = PICK(1, 2, 4, 7, 16, 1 + upto(256), 256);
+    s.q = PICK(1, 2, 64, 4096, 65535, 65536, 1 + upto(65536));
+    s.w = PICK(24, 25, 32, 61, 62, 24 + upto(39));
+    return s;
+}
+
+/* Random lawful tables */
+
+static void random_row(uint8_t *table, const struct setup *s, uint64_t rcid, uint64_t *left)
+{
+    uint8_t holders[8], count = 0;
+    uint64_t row = rcid * s->na;
+    for (uint64_t at = 0; at < s->na; at++) {
+        put_word(table, row + at, 4, 0);
+        if (*left == 0 || one_in(2))
+            continue;
+        uint64_t rbwb = 1 + upto(one_in(20) || *left < 8 ? *left : *left / 8);
+        put_word(table, row + at, 4, rbwb | (one_in(3) ? 0 : upto(256)) << 20);
+        holders[count++] = (uint8_t)at;
+        *left -= rbwb;
+    }
+    for (uint64_t at = 0; count && at < s->na; at++)
+        if (get_word(table, row + at, 4) == 0 && one_in(2))
+            put_word(table, row + at, 4, (UINT64_C(8) | holders[upto(count)]) << 28);
+}
+
+static uint64_t random_settings(uint8_t *table, const struct setup *s)
+{
+    uint64_t left = s->mrbwb;
+    memset(table, 0, 4 * s->nr * s->na);
+    for (uint64_t rcid = 0; rcid < s->nr; rcid++)
+        if (!one_in(4))
+            random_row(table, s, rcid, &left);
+    return s->mrbwb - left;
+}
+
+static void random_monitor(uint8_t *counters, uint8_t *events, const struct setup *s,
+                           uint64_t last_event, uint64_t flags)
+{
+    for (uint64_t i = 0; i < s->nm; i++) {
+        uint64_t top = (UINT64_C(1) << s->w) - 1;
+        uint64_t near = top - upto(300);
+        uint64_t counter = PICK(0, 1, top, top - 1, near, upto(top));
+        uint64_t event = upto(last_event + 1);
+        if (event && s->na > 1 && one_in(2))
+            event |= 0x800 | upto(s->na) << 8;
+        put_word(counters, i, 8, counter | (next_random(&seed) & flags));
+        put_word(events, i, 2, event);
+    }
+}
+
+static void random_bandwidth(struct bandwidth_buffers *b, const struct setup *s)
+{
+    uint64_t sum = random_settings(b->active, s);
+    uint64_t pool = (s->nbwblks - sum) * s->q;
+    if (one_in(3))
+        memcpy(b->configured, b->active, b->active_len);
+    else
+        random_settings(b->configured, s);
+    for (uint64_t i = 0; i < s->nr * s->na; i++) {
+        uint64_t limit = (get_word(b->active, i, 4) & 0xffff) * s->q;
+        put_word(b->used, i, 4, PICK(0, limit, limit ? upto(limit) : 0));
+    }
+    random_monitor(b->counters, b->events, s, 3, UINT64_C(3) << 62);
+    put_word(b->record, 11, 8, PICK(0, pool, pool ? upto(pool) : 0));
+}
+
+static void random_capacity(struct capacity_buffers *c, const struct setup *s)
+{
+    uint64_t blocks = UINT64_MAX >> (64 - s->ncblks);
+    for (uint64_t i = 0; i < s->nr * s->na; i++)
+        put_word(c->masks, i, 8, PICK(0, blocks, next_random(&seed) & blocks));
+    random_monitor(c->counters, c->events, s, 1, UINT64_C(1) << 63);
+}
+
+/* Damage: one word of one buffer becomes another, mostly a near one. */
+
+static void damage_word(uint8_t *table, size_t length, unsigned bytes)
+{
+    uint64_t index = upto(length / bytes);
+    uint64_t word = get_word(table, index, bytes);
+    switch (upto(5)) {
+    case 0:
+        word ^= UINT64_C(1) << upto(8 * bytes);
+        break;
+    case 1:
+        word += one_in(2) ? 1 : UINT64_MAX;
+        break;
+    case 2:
+        word = next_random(&seed);
+        break;
+    case 3:
+        word = bytes == 4 ? upto(16) << 28 : 0;
+        break;
+    case 4:
+        word = get_word(table, upto(length / bytes), bytes);
+        break;
+    }
+    put_word(table, index, bytes, word);
+}
+
+static void damage_length(size_t *length)
+{
+    *length = PICK(0, *length - 1, *length / 2, *length > 4 ? *length - 4 : 0);
+}
+
+static void damage_bandwidth(struct bandwidth_buffers *b)
+{
+    size_t *lengths[] = {&b->record_len, &b->active_len, &b->configured_len,
+                         &b->used_len, &b->counters_len, &b->events_len};
+    switch (upto(8)) {
+    case 0:
+        damage_word(b->record, b->record_len, 8);
+        break;
+    case 1:
+        damage_word(b->configured, b->configured_len, 4);
+        break;
+    case 2:
+        damage_word(b->used, b->used_len, 4);
+        break;
+    case 3:
+        damage_word(b->counters, b->counters_len, 8);
+        break;
+    case 4:
+        damage_word(b->events, b->events_len, 2);
+        break;
+    case 5:
+        damage_length(lengths[upto(6)]);
+        break;
+    default:
+        damage_word(b->active, b->active_len, 4);
+    }
+}
+
+static void damage_capacity(struct capacity_buffers *c)
+{
+    size_t *lengths[] = {&c->record_len, &c->masks_len, &c->counters_len, &c->events_len};
+    switch (upto(5)) {
+    case 0:
+        damage_word(c->record, c->record_len, 8);
+        break;
+    case 1:
+        damage_word(c->masks, c->masks_len, 8);
+        break;
+    case 2:
+        damage_word(c->counters, c->counters_len, 8);
+        break;
+    case 3:
+        damage_word(c->events, c->events_len, 2);
+        break;
+    case 4:
+        damage_length(lengths[upto(4)]);
+        break;
+    }
+}
+
+/* Random calls */
+
+enum kind { RESET, READ, WRITE, REQUEST, END_WINDOW, FILL = REQUEST, EVICT = END_WINDOW };
+
+struct call {
+    enum kind kind;
+    struct setup setup;             /* of a reset */
+    uint64_t size, offset, value;   /* of a read or write */
+    uint64_t rcid, mcid, at, which; /* of a request or cache event */
+    uint32_t bytes;
+};
+
+static uint64_t random_bw_alloc(const struct setup *s)
+{
+    uint64_t rbwb = PICK(0, 1, s->mrbwb, upto(one_in(2) ? s->mrbwb + 2 : s->mrbwb / 8 + 1));
+    uint64_t shared = upto(16) << 28;
+    uint64_t rest = PICK(0, UINT64_C(1) << 31, shared, upto(256) << 20);
+    uint64_t stray = one_in(8) ? next_random(&seed) : 0;
+    return ((rbwb & 0xffff) | rest) ^ stray;
+}
+
+static uint64_t random_control(const struct setup *s, uint64_t ids)
+{
+    uint64_t op = one_in(10) ? upto(32) : 1 + upto(2);
+    uint64_t at = one_in(10) ? upto(8) : upto(s->na);
+    uint64_t id = one_in(10) ? upto(4096) : upto(ids);
+    uint64_t event = one_in(10) ? upto(256) : upto(5);
+    uint64_t stray = one_in(8) ? next_random(&seed) << 29 : 0;
+    return op | at << 5 | id << 8 | event << 20 | upto(2) << 28 | stray;
+}
+
+static void random_access(struct call *c, const struct setup *s, int bandwidth)
+{
+    c->size = one_in(20) ? PICK(0, 1, 2, 3, 5, 16, UINT64_MAX) : one_in(3) ? 4 : 8;
+    c->offset = one_in(20) ? PICK(1, 2, 4, 36, 40, 44, UINT64_MAX - 3, UINT64_MAX - 7) : 8 * upto(5);
+    if (c->offset <= 32 && c->size == 4 && one_in(3))
+        c->offset += 4;
+    c->value = random_word(64);
+    if (c->offset == 32 && bandwidth)
+        c->value = random_bw_alloc(s);
+    if (c->offset == 8 || c->offset == 24)
+        c->value = random_control(s, c->offset == 8 ? s->nm : s->nr);
+    if (c->size == 4 && !one_in(20))
+        c->value &= UINT32_MAX;
+}
+
+static struct call random_call(const struct setup *s, int bandwidth)
+{
+    struct call c = {0};
+    c.kind = (enum kind)PICK(READ, WRITE, WRITE, WRITE, REQUEST, REQUEST, END_WINDOW);
+    if (one_in(50))
+        c.kind = RESET;
+    c.setup = *s;
+    if (one_in(2)) {
+        uint64_t *numbers[] = {&c.setup.nbwblks, &c.setup.mrbwb, &c.setup.ncblks, &c.setup.nr,
+                               &c.setup.na, &c.setup.nm, &c.setup.q, &c.setup.w};
+        uint64_t *number = numbers[upto(8)];
+        *number = PICK(0, *number + 1, *number - 1, 65, 257, 65537, UINT64_MAX);
+    }
+    random_access(&c, s, bandwidth);
+    c.rcid = one_in(20) ? PICK(s->nr, UINT64_MAX) : upto(s->nr);
+    c.mcid = one_in(20) ? PICK(s->nm, UINT64_MAX) : upto(s->nm);
+    c.at = one_in(10) ? PICK(s->na, 8, UINT64_MAX) : upto(s->na);
+    c.which = bandwidth ? PICK(0, 0, 1, 2, UINT64_MAX)
+                        : (one_in(10) ? PICK(s->ncblks, 64, UINT64_MAX) : upto(s->ncblks));
+    c.bytes = (uint32_t)random_word(32);
+    return c;
+}
+
+static uint64_t call_bandwidth(const struct interface *f, struct bandwidth_buffers *b,
+                               const struct call *c, uint64_t *out)
+{
+    const struct setup *s = &c->setup;
+    switch (c->kind) {
+    case RESET:
+        return f->bandwidth_reset(s->nbwblks, s->mrbwb, s->nr, s->na, s->nm, s->q, s->w,
+                                  BANDWIDTH_OF(b));
+    case READ:
+        return f->bandwidth_read(BANDWIDTH_OF(b), c->size, c->offset, out);
+    case WRITE:
+        return f->bandwidth_write(BANDWIDTH_OF(b), c->size, c->offset, c->value);
+    case REQUEST:
+        return f->bandwidth_request(BANDWIDTH_OF(b), c->rcid, c->mcid, c->at, c->which,
+                                    c->bytes, out);
+    default:
+        return f->bandwidth_end_window(BANDWIDTH_OF(b));
+    }
+}
+
+static uint64_t call_capacity(const struct interface *f, struct capacity_buffers *b,
+                              const struct call *c, uint64_t *out)
+{
+    const struct setup *s = &c->setup;
+    switch (c->kind) {
+    case RESET:
+        return f->capacity_reset(s->ncblks, s->nr, s->na, s->nm, s->w, CAPACITY_OF(b));
+    case READ:
+        return f->capacity_read(CAPACITY_OF(b), c->size, c->offset, out);
+    case WRITE:
+        return f->capacity_write(CAPACITY_OF(b), c->size, c->offset, c->value);
+    case FILL:
+        return f->capacity_fill(CAPACITY_OF(b), c->rcid, c->mcid, c->at, c->which, out);
+    default:
+        return f->capacity_evict(CAPACITY_OF(b), c->rcid, c->mcid, c->at, c->which);
+    }
+}
+
+/* Rounds: a set-up, perhaps a random state, then calls, some on damaged copies.
+ * call makes one call, and leaves in the buffers what it left. */
+
+static void bandwidth_round(void (*call)(struct bandwidth_buffers *, const struct call *))
+{
+    static struct bandwidth_buffers b, damaged;
+    struct setup s = random_setup();
+    struct call reset = {.kind = RESET, .setup = s};
+    memset(&b, 0xa5, sizeof b);
+    bandwidth_lengths(&b, s.nr, s.na, s.nm);
+    call(&b, &reset);
+    if (!one_in(3))
+        random_bandwidth(&b, &s);
+    for (int i = 0; i < 24; i++) {
+        struct call c = random_call(&s, 1);
+        if (one_in(3)) {
+            damaged = b;
+            damage_bandwidth(&damaged);
+            call(&damaged, &c);
+        } else {
+            call(&b, &c);
+        }
+    }
+}
+
+static void capacity_round(void (*call)(struct capacity_buffers *, const struct call *))
+{
+    static struct capacity_buffers b, damaged;
+    struct setup s = random_setup();
+    struct call reset = {.kind = RESET, .setup = s};
+    memset(&b, 0xa5, sizeof b);
+    capacity_lengths(&b, s.nr, s.na, s.nm);
+    call(&b, &reset);
+    if (!one_in(3))
+        random_capacity(&b, &s);
+    for (int i = 0; i < 12; i++) {
+        struct call c = random_call(&s, 0);
+        if (one_in(3)) {
+            damaged = b;
+            damage_capacity(&damaged);
+            call(&damaged, &c);
+        } else {
+            call(&b, &c);
+        }
+    }
+}
+
+#endif

@@ -1,0 +1,110 @@
+/*
+ * The stack that each entry point uses, measured on the bare board: the stack
+ * is painted, the entry point called, and the lowest byte that lost its paint
+ * looked for. What a caller keeps on the stack, arguments too, is not counted.
+ */
+#include "../bench/interface.h"
+
+#include <cbqri.h>
+
+#include <inttypes.h>
+#include <stdio.h>
+
+/* ---- Paint ---- */
+
+static const uint64_t paint = UINT64_C(0xc5c5c5c5c5c5c5c5);
+extern uint64_t stack_bottom[];
+static uint64_t *stack_at_call;
+
+#define STACK_POINTER(pointer) __asm__ volatile("mv %0, sp" : "=r"(pointer))
+
+__attribute__((noinline)) static void paint_stack(void)
+{
+    uint64_t *end;
+    STACK_POINTER(end);
+    for (volatile uint64_t *word = stack_bottom; word < end; word++)
+        *word = paint;
+}
+
+static uint64_t used_stack(void)
+{
+    const volatile uint64_t *word = stack_bottom;
+    while (*word == paint)
+        word++;
+    return (uint64_t)((const char *)stack_at_call - (const char *)word);
+}
+
+/* ---- The calls: each entry point, on set-ups of either size of room ---- */
+
+enum { FEW, MOST };
+static const struct { uint64_t nr, na, nm; } sizes[] = {{16, 8, 64}, {256, 8, 256}};
+static uint64_t nr, na, nm, offset, value, out;
+static struct bandwidth_buffers bw;
+static struct capacity_buffers cc;
+
+#define ENTRY(name, ...)                                                                  \
+    __attribute__((noinline)) static uint64_t name(void)                                  \
+    {                                                                                     \
+        STACK_POINTER(stack_at_call);                                                     \
+        return cbqri_##name(__VA_ARGS__);                                                 \
+    }
+ENTRY(bandwidth_reset, 100, 80, nr, na, nm, 64, 24, BANDWIDTH_OF(&bw))
+ENTRY(bandwidth_read, BANDWIDTH_OF(&bw), 8, offset, &out)
+ENTRY(bandwidth_write, BANDWIDTH_OF(&bw), 8, offset, value)
+ENTRY(bandwidth_request, BANDWIDTH_OF(&bw), 0, 0, 0, 0, 6000, &out)
+ENTRY(bandwidth_end_window, BANDWIDTH_OF(&bw))
+ENTRY(capacity_reset, 40, nr, na, nm, 24, CAPACITY_OF(&cc))
+ENTRY(capacity_read, CAPACITY_OF(&cc), 8, offset, &out)
+ENTRY(capacity_write, CAPACITY_OF(&cc), 8, offset, value)
+ENTRY(capacity_fill, CAPACITY_OF(&cc), 0, 0, 0, 3, &out)
+ENTRY(capacity_evict, CAPACITY_OF(&cc), 0, 0, 0, 3)
+
+static const struct { const char *name; uint64_t (*call)(void); } entries[] = {
+    {"cbqri_bandwidth_reset", bandwidth_reset},
+    {"cbqri_bandwidth_read", bandwidth_read},
+    {"cbqri_bandwidth_write", bandwidth_write},
+    {"cbqri_bandwidth_request", bandwidth_request},
+    {"cbqri_bandwidth_end_window", bandwidth_end_window},
+    {"cbqri_capacity_reset", capacity_reset},
+    {"cbqri_capacity_read", capacity_read},
+    {"cbqri_capacity_write", capacity_write},
+    {"cbqri_capacity_fill", capacity_fill},
+    {"cbqri_capacity_evict", capacity_evict},
+};
+
+static uint64_t refused;
+
+static uint64_t measure(uint64_t (*call)(void))
+{
+    paint_stack();
+    refused |= call();
+    return used_stack();
+}
+
+/* The most over every register; bw_alloc or block_mask first, so that CONFIG_LIMIT has an operand. */
+static uint64_t most_used(uint64_t (*call)(void), int size)
+{
+    uint64_t most = 0;
+    nr = sizes[size].nr;
+    na = sizes[size].na;
+    nm = sizes[size].nm;
+    bandwidth_lengths(&bw, nr, na, nm);
+    capacity_lengths(&cc, nr, na, nm);
+    refused |= bandwidth_reset() | capacity_reset();
+    value = cbqri_mon_ctl(CBQRI_CONFIG_EVENT, 0, 0, CBQRI_EVENT_BYTES, 0);
+    for (offset = CBQRI_SPAN; offset > 0;) {
+        offset -= 8;
+        uint64_t used = measure(call);
+        most = used > most ? used : most;
+    }
+    return most;
+}
+
+int main(void)
+{
+    printf("entry point, stack at 128 pairs and 64 MCIDs, stack at 2048 pairs and 256 MCIDs\n");
+    for (unsigned i = 0; i < sizeof entries / sizeof entries[0]; i++)
+        printf("%s %" PRIu64 " %" PRIu64 "\n", entries[i].name, most_used(entries[i].call, FEW),
+               most_used(entries[i].call, MOST));
+    return refused != 0;
+}
