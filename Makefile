@@ -13,9 +13,10 @@ run:
 soak:
 	@tests/soak
 
-# make bench: the library beside plain and tuned C, after make test; the capacity rows are plain C's own until the library has them
+# make bench: the listing program and the library beside plain and tuned C, after make test; the capacity rows are plain C's own until the
+# library has them
 bench:
-	@$(MAKE) --no-print-directory -C bench LIB=$(CURDIR)/target/outside-library/libcbqri.a
+	@$(MAKE) --no-print-directory -C bench LIB=$(CURDIR)/target/outside-library/libcbqri.a LISTING=$(CURDIR)/target/bin/listing
 
 fmt:
 	rt fmt
