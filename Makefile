@@ -13,9 +13,9 @@ run:
 soak:
 	@tests/soak
 
-# make bench: the library beside plain and tuned C, after make test
+# make bench: the listing program and the library beside plain and tuned C, after make test
 bench:
-	@$(MAKE) --no-print-directory -C bench LIB=$(CURDIR)/target/staticlib/libcbqri.a
+	@$(MAKE) --no-print-directory -C bench LIB=$(CURDIR)/target/staticlib/libcbqri.a LISTING=$(CURDIR)/target/bin/listing
 
 # make firmware: target/firmware/libcbqri.a for rv64, of the module that was proved
 firmware:

@@ -13,6 +13,7 @@
  */
 #define _POSIX_C_SOURCE 200809L
 #include "interface.h"
+#include "median.h"
 
 #include <inttypes.h>
 #include <stdio.h>
@@ -51,7 +52,7 @@ static const struct {
     {TUNED, INTERFACE("clang", tuned_clang_)},
 #endif
 };
-enum { VERSIONS = sizeof versions / sizeof versions[0], MOST_REPETITIONS = 99, CALLS = 256 };
+enum { VERSIONS = sizeof versions / sizeof versions[0], CALLS = 256 };
 
 /* The optional second part: an object that also measures the proved functions
  * on typed tables, without bytes, may define this; it prints its own lines. */
@@ -279,29 +280,6 @@ static double seconds(void)
     struct timespec t;
     clock_gettime(CLOCK_THREAD_CPUTIME_ID, &t);
     return (double)t.tv_sec + 1e-9 * (double)t.tv_nsec;
-}
-
-static int by_size(const void *a, const void *b)
-{
-    double x = *(const double *)a, y = *(const double *)b;
-    return (x > y) - (x < y);
-}
-
-static double median(const double *numbers, int count)
-{
-    double sorted[MOST_REPETITIONS];
-    memcpy(sorted, numbers, (size_t)count * sizeof *sorted);
-    qsort(sorted, (size_t)count, sizeof *sorted, by_size);
-    return sorted[count / 2];
-}
-
-/* The median of the ratios within each repetition. */
-static double ratio(const double *above, const double *below, int count)
-{
-    double ratios[MOST_REPETITIONS];
-    for (int i = 0; i < count; i++)
-        ratios[i] = above[i] / below[i];
-    return median(ratios, count);
 }
 
 /* ns per call of n calls from the start state; keeps what they answer. */

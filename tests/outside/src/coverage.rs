@@ -2,6 +2,7 @@
 
 pub mod bandwidth;
 pub mod capacity;
+pub mod listing;
 
 use std::collections::BTreeMap;
 
@@ -34,6 +35,10 @@ impl Coverage {
     pub fn print(&self, controller: &str) {
         let (lists, calls, claimed) = (self.lists, self.calls, self.claimed);
         println!("{controller}: {calls} calls in {lists} lists, claims checked after {claimed}");
+        self.print_counts();
+    }
+
+    pub fn print_counts(&self) {
         for (label, count) in &self.counts {
             println!("  {count:>8}  {label}");
         }

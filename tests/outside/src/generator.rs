@@ -4,6 +4,7 @@
 pub mod bandwidth;
 pub mod capacity;
 mod common;
+pub mod listing;
 mod random;
 mod setups;
 mod step;

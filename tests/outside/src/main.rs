@@ -3,7 +3,10 @@
 //!
 //!     outside cases                           the papers' worked examples, with numbers by hand
 //!     outside run [--calls N] [--seed N]      lists of calls on each controller
-//!     outside soak [--minutes N] [--seed N]   the same until the time is over
+//!     outside listing --program PATH [--inputs N] [--seed N]
+//!                                             the listing program beside the model's own listing
+//!     outside soak [--minutes N] [--seed N] [--program PATH]
+//!                                             the same until the time is over
 
 mod cases;
 mod controller;
@@ -12,8 +15,10 @@ mod ffi;
 mod generator;
 mod image;
 mod ledger;
+mod listing;
 mod memory;
 mod model;
+mod program;
 mod run;
 mod session;
 
@@ -21,9 +26,10 @@ use std::process::ExitCode;
 use std::time::{Duration, Instant};
 
 use controller::{Bandwidth, Capacity, Controller};
-use coverage::Coverage;
+use coverage::{Coverage, Labels};
 
 const DEFAULT_CALLS: u64 = 500_000;
+const DEFAULT_INPUTS: u64 = 3_000;
 const DEFAULT_SEED: u64 = 20_230_301;
 
 fn main() -> ExitCode {
@@ -35,20 +41,33 @@ fn main() -> ExitCode {
             let calls = number(&arguments, "--calls").unwrap_or(DEFAULT_CALLS);
             run_both(seed, calls)
         }
-        Some("soak") => soak(seed, number(&arguments, "--minutes").unwrap_or(10)),
+        Some("listing") => {
+            let program = option(&arguments, "--program").expect("--program PATH");
+            run_listing(program, seed, number(&arguments, "--inputs").unwrap_or(DEFAULT_INPUTS))
+        }
+        Some("soak") => {
+            let minutes = number(&arguments, "--minutes").unwrap_or(10);
+            soak(seed, minutes, option(&arguments, "--program"))
+        }
         _ => {
-            eprintln!("usage: outside cases | run [--calls N] [--seed N] | soak [--minutes N]");
+            eprintln!("usage: outside cases | run [--calls N] [--seed N]");
+            eprintln!("       outside listing --program PATH [--inputs N] [--seed N]");
+            eprintln!("       outside soak [--minutes N] [--seed N] [--program PATH]");
             false
         }
     };
     ExitCode::from(!passed as u8)
 }
 
-/// The number after an option, if the option is given.
-fn number(arguments: &[String], option: &str) -> Option<u64> {
-    let place = arguments.iter().position(|argument| argument == option)?;
-    let text = arguments.get(place + 1).map_or("", String::as_str);
-    Some(text.parse().unwrap_or_else(|_| panic!("{option} needs a number, not '{text}'")))
+/// What stands after an option, if the option is given.
+fn option<'a>(arguments: &'a [String], name: &str) -> Option<&'a str> {
+    let place = arguments.iter().position(|argument| argument == name)?;
+    Some(arguments.get(place + 1).map_or("", String::as_str))
+}
+
+fn number(arguments: &[String], name: &str) -> Option<u64> {
+    let text = option(arguments, name)?;
+    Some(text.parse().unwrap_or_else(|_| panic!("{name} needs a number, not '{text}'")))
 }
 
 fn run_both(seed: u64, calls: u64) -> bool {
@@ -66,29 +85,57 @@ fn run_one<C: Controller>(seed: u64, calls: u64) -> bool {
         return false;
     }
     coverage.print(C::NAME);
-    let missing = coverage.missing(C::required());
+    println!("  seed {seed}, {:.1} s", start.elapsed().as_secs_f64());
+    nothing_missing(&coverage, C::required()) && coverage.calls >= calls
+}
+
+fn nothing_missing(coverage: &Coverage, required: Labels) -> bool {
+    let missing = coverage.missing(required);
     for label in &missing {
         println!("  MISSING: {label}");
     }
-    println!("  seed {seed}, {:.1} s", start.elapsed().as_secs_f64());
-    missing.is_empty() && coverage.calls >= calls
+    missing.is_empty()
 }
 
-/// Runs both controllers in turn, each time with another seed.
-fn soak(seed: u64, minutes: u64) -> bool {
+fn run_listing(program: &str, seed: u64, inputs: u64) -> bool {
+    let start = Instant::now();
+    let mut coverage = Coverage::default();
+    if !same_listing(program, seed, inputs, &mut coverage) {
+        return false;
+    }
+    println!("listing: {} lines in {} inputs, no difference", coverage.calls, coverage.lists);
+    coverage.print_counts();
+    println!("  seed {seed}, {:.1} s", start.elapsed().as_secs_f64());
+    nothing_missing(&coverage, coverage::listing::required())
+}
+
+fn same_listing(program: &str, seed: u64, inputs: u64, coverage: &mut Coverage) -> bool {
+    let outcome = listing::run(program, seed, inputs, coverage);
+    if let Err(text) = &outcome {
+        println!("listing: {text}");
+    }
+    outcome.is_ok()
+}
+
+/// Runs both controllers and the listing program, if there is one, in turn, each time with another seed.
+fn soak(seed: u64, minutes: u64, program: Option<&str>) -> bool {
     let end = Instant::now() + Duration::from_secs(60 * minutes);
-    let (mut bandwidth, mut capacity) = (Coverage::default(), Coverage::default());
+    let [mut bandwidth, mut capacity, mut lines] = [(); 3].map(|_| Coverage::default());
     let mut seed = seed;
     while Instant::now() < end {
         seed += 1;
         let passed = soak_one::<Bandwidth>(seed, &mut bandwidth)
-            && soak_one::<Capacity>(seed, &mut capacity);
+            && soak_one::<Capacity>(seed, &mut capacity)
+            && program.map_or(true, |program| same_listing(program, seed, 100, &mut lines));
         if !passed {
             return false;
         }
     }
     println!("bandwidth: {} calls, no difference", bandwidth.calls);
     println!("capacity: {} calls, no difference", capacity.calls);
+    if program.is_some() {
+        println!("listing: {} lines in {} inputs, no difference", lines.calls, lines.lists);
+    }
     true
 }
 

@@ -99,7 +99,7 @@ fn read(size: u64, offset: u64) -> Step<Call> {
 }
 
 /// Any call, with arguments of every kind.
-fn any_call(random: &mut Random, setup: &Setup) -> Call {
+pub fn any_call(random: &mut Random, setup: &Setup) -> Call {
     let (size, offset, value) = match random.below(12) {
         0 | 1 => {
             let (size, offset) = common::access(random);

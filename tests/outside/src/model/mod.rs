@@ -5,6 +5,7 @@ pub mod access;
 pub mod bandwidth;
 pub mod capacity;
 pub mod field;
+pub mod listing;
 pub mod monitor;
 pub mod registers;
 
