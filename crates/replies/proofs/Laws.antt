@@ -1,13 +1,14 @@
 -- Calls on bytes: by their lengths, and by the model's step.
-use mathlib.Core.Path.{_≡_, refl, ap, _∙_}
+use mathlib.Core.Path.{_≡_, refl, ap, subst, _∙_}
 use mathlib.Core.Bool.{Bool, not, cond}
 use Prim.Native.Nat.{ℕ}
 use borrow.Author.Tests.{ne-eqb}
 use lib.Dec.{T}
 use Rattle.access.specs.Checks.{first}
 use Rattle.access.proofs.Checks.{none-holds}
-use Rattle.tables.proofs.Tests.{cases, not-not}
-use Rattle.runs.specs.Runs.{Outcome}
+use Rattle.tables.proofs.Tests.{cases, not-not, not-both}
+use Rattle.runs.specs.Runs.{Outcome, step}
+use Rattle.runs.proofs.Steps.{Accepting, step-by}
 use Rattle.replies.specs.Replies.{Reply, reply, byteChecks, stepOn, stepBytes}
 
 -- ---- checks 1 and 2
@@ -45,3 +46,14 @@ module _ {L S C A : Type 0} (step : S → C → Outcome S A) (replyTo : L → A 
     pub step-taken : (r : Reply L) → refusal l c ≡ 0 → r ≡ stepOn step replyTo l (stateOf l) c → r ≡ stepBytes step replyTo refusal stateOf l c
     unfolding stepBytes
     step-taken r z e = rw z e
+
+-- ---- a refused call
+
+module _ {S C A : Type 0} {refusal : S → C → ℕ} {perform : S → C → Outcome S A} {refused : ℕ → A} {accepted : A → Bool}
+    (a : Accepting refusal perform refused accepted) (s : S) (c : C) where
+  -- a call that answers with a refusal leaves its state
+  pub keeps : (n : ℕ) → step refusal perform refused s c .answer ≡ refused n → step refusal perform refused s c .state ≡ s
+  keeps n =
+      step-by refusal perform refused s c (λ o. o .answer ≡ refused n → o .state ≡ s)
+      (λ e q. absurd (not-both (accepted (refused n)) (subst (λ (x : A). T (accepted x)) q (a .performs s c)) (a .refuses-not n)))
+      (λ t q. refl)
