@@ -1,8 +1,8 @@
 -- Room for the words of tables, and its choice by the tables' lengths.
-use mathlib.Core.Path.{_≡_, sym, ap, _∙_}
+use mathlib.Core.Path.{_≡_}
 use mathlib.Core.Bool.{true, _&&_}
 use mathlib.Core.List.{List}
-use Prim.Native.Nat.{ℕ, _*_, _/_, _≤_}
+use Prim.Native.Nat.{ℕ, _*_, _/_}
 use native.Mathlib.Omega.{arith}
 use lib.Dec.{T, leb, leb→le}
 use lib.ListN.{length, take}
@@ -25,10 +25,10 @@ fits l p m a c u n e s qa qc qu qn qe = record {
   events-fit = part-fits 2 (length (l .events) / 2) m e (l .events) (s .few-mcids) qe (s .events-long);
 }
 
--- the tables fit the room for few
-pub few-sized : (su : Setup) (l : Lent) → byteRefusal su l ≡ 0 → (leb (length (l .active)) 512 && leb (length (l .events)) 128) ≡ true → Sized l 128 64
-few-sized su l z e =
-    let t : T (leb (length (l .active)) 512 && leb (length (l .events)) 128) = of-true e in
-    let a = leb→le (length (l .active)) 512 (and-l (leb (length (l .active)) 512) (leb (length (l .events)) 128) t) in
-    let b = leb→le (length (l .events)) 128 (and-r (leb (length (l .active)) 512) (leb (length (l .events)) 128) t) in
-    sized su l 128 64 z (omega arith) (omega arith)
+-- tables with the bytes of at most p pairs and q MCIDs
+pub room-for : (p q : ℕ) (su : Setup) (l : Lent) → byteRefusal su l ≡ 0 → (leb (length (l .active)) (p * 4) && leb (length (l .events)) (q * 2)) ≡ true → Sized l p q
+room-for p q su l z e =
+    let t : T (leb (length (l .active)) (p * 4) && leb (length (l .events)) (q * 2)) = of-true e in
+    let a = leb→le (length (l .active)) (p * 4) (and-l (leb (length (l .active)) (p * 4)) (leb (length (l .events)) (q * 2)) t) in
+    let b = leb→le (length (l .events)) (q * 2) (and-r (leb (length (l .active)) (p * 4)) (leb (length (l .events)) (q * 2)) t) in
+    sized su l p q z (omega arith) (omega arith)

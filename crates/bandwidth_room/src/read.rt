@@ -8,11 +8,52 @@ use rooms::few_settings;
 use rooms::most_counters;
 use rooms::most_events;
 use rooms::most_settings;
+use rooms::small_counters;
+use rooms::small_events;
+use rooms::small_settings;
 ghost use mathlib.Core.Path.{_≡_};
 ghost use Rattle.bandwidth_model.specs.Calls.{read};
 ghost use Rattle.replies.specs.Replies.{reply};
 ghost use Rattle.bandwidth_bytes.specs.Bytes.{lent, stateOf, stepOn, stepBytes};
 ghost use Rattle.bandwidth_bytes.specs.View.{Sized};
+
+fn read_small(
+    record: &[u8],
+    active: &[u8],
+    configured: &[u8],
+    used: &[u8],
+    counters: &[u8],
+    events: &[u8],
+    size: u64,
+    offset: u64,
+) -> Told
+    requires { ⌜ Sized (lent (now «record») (now active) (now configured) (now used) (now counters) (now events)) 16 16 ⌝ }
+    ensures { λ r. ⌜ reply (r .number) (r .value) (lent (now («record» .entry)) (now (active .entry)) (now (configured .entry)) (now (used .entry)) (now (counters .entry)) (now (events .entry)))
+        ≡ stepOn (lent (now («record» .entry)) (now (active .entry)) (now (configured .entry)) (now (used .entry)) (now (counters .entry)) (now (events .entry))) (stateOf (lent (now («record» .entry)) (now (active .entry)) (now (configured .entry)) (now (used .entry)) (now (counters .entry)) (now (events .entry)))) (read size offset) ⌝ }
+{
+    let pairs = active.len() / 4;
+    let nm = events.len() / 2;
+    let mut a = small_settings();
+    let mut c = small_settings();
+    let mut u = small_settings();
+    let mut n = small_counters();
+    let mut e = small_events();
+    read_in(
+        record,
+        active,
+        configured,
+        used,
+        counters,
+        events,
+        &mut a[..pairs],
+        &mut c[..pairs],
+        &mut u[..pairs],
+        &mut n[..nm],
+        &mut e[..nm],
+        size,
+        offset,
+    )
+}
 
 fn read_few(
     record: &[u8],
@@ -109,7 +150,18 @@ pub fn read_bytes(
     if number != 0 {
         return number;
     }
-    let told = if (active.len() <= 512) & (events.len() <= 128) {
+    let told = if (active.len() <= 64) & (events.len() <= 32) {
+        read_small(
+            record,
+            active,
+            configured,
+            used,
+            counters,
+            events,
+            size,
+            offset,
+        )
+    } else if (active.len() <= 512) & (events.len() <= 128) {
         read_few(
             record,
             active,

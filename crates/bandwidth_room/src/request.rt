@@ -8,11 +8,58 @@ use rooms::few_settings;
 use rooms::most_counters;
 use rooms::most_events;
 use rooms::most_settings;
+use rooms::small_counters;
+use rooms::small_events;
+use rooms::small_settings;
 ghost use mathlib.Core.Path.{_≡_};
 ghost use Rattle.bandwidth_model.specs.Calls.{request};
 ghost use Rattle.replies.specs.Replies.{reply};
 ghost use Rattle.bandwidth_bytes.specs.Bytes.{lent, stateOf, stepOn, stepBytes};
 ghost use Rattle.bandwidth_bytes.specs.View.{Sized};
+
+fn request_small(
+    record: &mut [u8],
+    active: &[u8],
+    configured: &[u8],
+    used: &mut [u8],
+    counters: &mut [u8],
+    events: &[u8],
+    rcid: u64,
+    mcid: u64,
+    at: u64,
+    kind: u64,
+    bytes: u32,
+) -> Told
+    requires { ⌜ Sized (lent (now «record») (now active) (now configured) (now used) (now counters) (now events)) 16 16 ⌝ }
+    ensures { λ r. ⌜ reply (r .number) (r .value) (lent (now («record» .exit)) (now (active .entry)) (now (configured .entry)) (now (used .exit)) (now (counters .exit)) (now (events .entry)))
+        ≡ stepOn (lent (now («record» .entry)) (now (active .entry)) (now (configured .entry)) (now (used .entry)) (now (counters .entry)) (now (events .entry))) (stateOf (lent (now («record» .entry)) (now (active .entry)) (now (configured .entry)) (now (used .entry)) (now (counters .entry)) (now (events .entry)))) (request rcid mcid at kind bytes) ⌝ }
+{
+    let pairs = active.len() / 4;
+    let nm = events.len() / 2;
+    let mut a = small_settings();
+    let mut c = small_settings();
+    let mut u = small_settings();
+    let mut n = small_counters();
+    let mut e = small_events();
+    request_in(
+        record,
+        active,
+        configured,
+        used,
+        counters,
+        events,
+        &mut a[..pairs],
+        &mut c[..pairs],
+        &mut u[..pairs],
+        &mut n[..nm],
+        &mut e[..nm],
+        rcid,
+        mcid,
+        at,
+        kind,
+        bytes,
+    )
+}
 
 fn request_few(
     record: &mut [u8],
@@ -124,7 +171,21 @@ pub fn request_bytes(
     if number != 0 {
         return number;
     }
-    let told = if (active.len() <= 512) & (events.len() <= 128) {
+    let told = if (active.len() <= 64) & (events.len() <= 32) {
+        request_small(
+            record,
+            active,
+            configured,
+            used,
+            counters,
+            events,
+            rcid,
+            mcid,
+            at,
+            kind,
+            bytes,
+        )
+    } else if (active.len() <= 512) & (events.len() <= 128) {
         request_few(
             record,
             active,

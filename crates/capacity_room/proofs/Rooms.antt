@@ -2,7 +2,7 @@
 use mathlib.Core.Path.{_≡_}
 use mathlib.Core.Bool.{true, _&&_}
 use mathlib.Core.List.{List}
-use Prim.Native.Nat.{ℕ, _/_}
+use Prim.Native.Nat.{ℕ, _*_, _/_}
 use native.Mathlib.Omega.{arith}
 use lib.Dec.{T, leb, leb→le}
 use lib.ListN.{length, take}
@@ -23,10 +23,10 @@ fits l p q m n e s qm qn qe = record {
   events-fit = part-fits 2 (length (l .events) / 2) q e (l .events) (s .few-mcids) qe (s .events-long);
 }
 
--- the tables fit the room for few
-pub few-sized : (su : Setup) (l : Lent) → byteRefusal su l ≡ 0 → (leb (length (l .masks)) 1024 && leb (length (l .events)) 128) ≡ true → Sized l 128 64
-few-sized su l z e =
-    let t : T (leb (length (l .masks)) 1024 && leb (length (l .events)) 128) = of-true e in
-    let a = leb→le (length (l .masks)) 1024 (and-l (leb (length (l .masks)) 1024) (leb (length (l .events)) 128) t) in
-    let b = leb→le (length (l .events)) 128 (and-r (leb (length (l .masks)) 1024) (leb (length (l .events)) 128) t) in
-    sized su l 128 64 z (omega arith) (omega arith)
+-- tables with the bytes of at most p pairs and q MCIDs
+pub room-for : (p q : ℕ) (su : Setup) (l : Lent) → byteRefusal su l ≡ 0 → (leb (length (l .masks)) (p * 8) && leb (length (l .events)) (q * 2)) ≡ true → Sized l p q
+room-for p q su l z e =
+    let t : T (leb (length (l .masks)) (p * 8) && leb (length (l .events)) (q * 2)) = of-true e in
+    let a = leb→le (length (l .masks)) (p * 8) (and-l (leb (length (l .masks)) (p * 8)) (leb (length (l .events)) (q * 2)) t) in
+    let b = leb→le (length (l .events)) (q * 2) (and-r (leb (length (l .masks)) (p * 8)) (leb (length (l .events)) (q * 2)) t) in
+    sized su l p q z (omega arith) (omega arith)

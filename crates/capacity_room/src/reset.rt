@@ -8,12 +8,43 @@ use rooms::few_masks;
 use rooms::most_counters;
 use rooms::most_events;
 use rooms::most_masks;
+use rooms::small_counters;
+use rooms::small_events;
+use rooms::small_masks;
 ghost use mathlib.Core.Path.{_≡_};
 ghost use Rattle.capacity_model.specs.Calls.{reset};
 ghost use Rattle.replies.specs.Replies.{reply};
 ghost use Rattle.capacity_bytes.specs.Bytes.{lent, setupBy, stateOf, stepOn, stepBytes};
 ghost use Rattle.capacity_bytes.specs.View.{Sized};
 ghost use Rattle.masks.specs.View.{setupOf};
+
+fn reset_small(
+    record: &mut [u8],
+    masks: &mut [u8],
+    counters: &mut [u8],
+    events: &mut [u8],
+    setup: Setup,
+) -> u64
+    requires { ⌜ Sized (lent (now «record») (now masks) (now counters) (now events)) 16 16 ⌝ }
+    ensures { λ r. ⌜ reply r 0 (lent (now («record» .exit)) (now (masks .exit)) (now (counters .exit)) (now (events .exit)))
+        ≡ stepOn (lent (now («record» .entry)) (now (masks .entry)) (now (counters .entry)) (now (events .entry))) (stateOf (lent (now («record» .entry)) (now (masks .entry)) (now (counters .entry)) (now (events .entry)))) (reset (setupOf setup)) ⌝ }
+{
+    let pairs = masks.len() / 8;
+    let nm = events.len() / 2;
+    let mut m = small_masks();
+    let mut n = small_counters();
+    let mut e = small_events();
+    reset_in(
+        record,
+        masks,
+        counters,
+        events,
+        &mut m[..pairs],
+        &mut n[..nm],
+        &mut e[..nm],
+        setup,
+    )
+}
 
 fn reset_few(
     record: &mut [u8],
@@ -96,7 +127,9 @@ pub fn reset_bytes(
     if number != 0 {
         return number;
     }
-    if (masks.len() <= 1024) & (events.len() <= 128) {
+    if (masks.len() <= 128) & (events.len() <= 32) {
+        reset_small(record, masks, counters, events, setup)
+    } else if (masks.len() <= 1024) & (events.len() <= 128) {
         reset_few(record, masks, counters, events, setup)
     } else {
         reset_most(record, masks, counters, events, setup)

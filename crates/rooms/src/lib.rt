@@ -1,6 +1,30 @@
-// Room for the words of tables: for few pairs and MCIDs, and for the most. Functions of their own keep written-out zeros out of their callers' goals.
+// Room for the words of tables: for a small set-up, for few pairs and MCIDs, and for the most. Functions of their own keep written-out zeros out of their callers' goals.
 ghost use mathlib.Core.Path.{_≡_};
 ghost use lib.ListN.{length};
+
+pub fn small_settings() -> [u32; 16]
+    ensures { λ r. ⌜ 16 ≡ length r ⌝ }
+{
+    [0; 16]
+}
+
+pub fn small_masks() -> [u64; 16]
+    ensures { λ r. ⌜ 16 ≡ length r ⌝ }
+{
+    [0; 16]
+}
+
+pub fn small_counters() -> [u64; 16]
+    ensures { λ r. ⌜ 16 ≡ length r ⌝ }
+{
+    [0; 16]
+}
+
+pub fn small_events() -> [u16; 16]
+    ensures { λ r. ⌜ 16 ≡ length r ⌝ }
+{
+    [0; 16]
+}
 
 pub fn few_settings() -> [u32; 128]
     ensures { λ r. ⌜ 128 ≡ length r ⌝ }
