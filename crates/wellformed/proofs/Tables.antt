@@ -126,7 +126,7 @@ module _ (su : Setup) (t : List ℕ) (long : length t ≡ pairs su) where
             words = view nf nr;
           })
 
-      pub blocks-total : T (tableOk su t) → blocks ≡ total t
+      blocks-total : T (tableOk su t) → blocks ≡ total t
       blocks-total k = l .words .blocks-are ∙ sums (words-form (table-facts su t long k))
 
       back : T (tableOk su t) → T (eqb form 0 && eqb rows 0 && leb blocks (su .mrbwb))
@@ -137,8 +137,10 @@ module _ (su : Setup) (t : List ℕ) (long : length t ≡ pairs su) where
           let d : T (leb blocks (su .mrbwb)) = le→leb blocks (su .mrbwb) (le-trans (le-of-eq (blocks-total k)) (f .bounded)) in
           search and-in
 
-      pub table-test : (eqb form 0 && eqb rows 0 && leb blocks (su .mrbwb)) ≡ tableOk su t
-      table-test = same-test (eqb form 0 && eqb rows 0 && leb blocks (su .mrbwb)) (tableOk su t) there back
+      pub table-test : {x : Bool} → x ≡ (eqb form 0 && eqb rows 0 && leb blocks (su .mrbwb)) → (x ≡ tableOk su t) × (T x → blocks ≡ total t)
+      table-test e =
+          let k = e ∙ same-test (eqb form 0 && eqb rows 0 && leb blocks (su .mrbwb)) (tableOk su t) there back in
+          (k, λ h. blocks-total (subst T k h))
 
 -- ---- used bytes
 
@@ -153,9 +155,9 @@ used-test q n active used =
 -- ---- all tables
 
 -- a part of a test that matters only where its first part holds
-guarded : (a c u v k e : Bool) → (T a → u ≡ v) → (a && c && u && k && e) ≡ (a && c && v && k && e)
-guarded true c u v k e h = rw (h tt)
-guarded false c u v k e h = refl
+guarded : (s u v k e : Bool) → (T s → u ≡ v) → (s && u && k && e) ≡ (s && v && k && e)
+guarded true u v k e h = rw (h tt)
+guarded false u v k e h = refl
 
 module _ (su : Setup) (active configured used counters events : List ℕ) (z : Sized su active configured used counters events) where
   within : ℕ → Bool
@@ -168,11 +170,12 @@ module _ (su : Setup) (active configured used counters events : List ℕ) (z : S
       ∙ all-same (pairs su) _ within
       (λ i l. ap (λ (b : ℕ). leb (getD used i 0) (b * su .q)) (sym (blocks-reserved su active (z .active-long) k i l)))
 
-  pub tables-test : {a c u k e : Bool} → a ≡ tableOk su active → c ≡ tableOk su configured
+  pub tables-test : {s u k e : Bool} → s ≡ (tableOk su active && tableOk su configured)
       → u ≡ allBelow (length used) (λ i. leb (getD used i 0) (rbwbOf (getD active i 0) * su .q))
       → k ≡ allBelow (length counters) (λ i. counterOk reg.bandwidthCounter reg.bandwidthCtr (su .w) (getD counters i 0))
       → e ≡ allBelow (length events) (λ i. settingOk (su .na) lastEvent (getD events i 0))
-      → (a && c && u && k && e) ≡ tablesOk su active configured used counters events
+      → (s && u && k && e) ≡ tablesOk su active configured used counters events
   unfolding tablesOk within
-  tables-test {a} {c} {u} {k} {e} ea ec eu ek ee =
-      guarded a c u (allBelow (pairs su) within) k e (λ t. eu ∙ used-reserved (subst T ea t)) ∙ rw (ea, ec, ek, ee, z .counters-long, z .events-long)
+  tables-test {s} {u} {k} {e} es eu ek ee =
+      guarded s u (allBelow (pairs su) within) k e (λ t. eu ∙ used-reserved (and-l (tableOk su active) (tableOk su configured) (subst T es t)))
+      ∙ rw (es, ek, ee, z .counters-long, z .events-long)

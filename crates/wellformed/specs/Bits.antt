@@ -39,9 +39,9 @@ rowAt na t rcid = lacking (gather na (markAt t (rcid * na)))
 unfoldable pub overAt : ℕ → List ℕ → List ℕ → ℕ → ℕ
 overAt q active used i = cond (leb (getD used i 0) (blocksAt active i * q)) 0 4294967295
 
--- no word of a part is above any
-pub record AtMost (t : List ℕ) (lo hi any : ℕ) : Type 0 where
-  pub each : (k : ℕ) → lo ≤ k → k < hi → getD t k 0 ≤ any
+-- nothing that f says of a part is above any
+pub record AtMost (f : ℕ → ℕ) (lo hi any : ℕ) : Type 0 where
+  pub each : (k : ℕ) → lo ≤ k → k < hi → f k ≤ any
 
 -- the words below n are scanned
 pub record Scanned (t : List ℕ) (n bits blocks : ℕ) : Type 0 where

@@ -1,11 +1,15 @@
-// A settings table: the form of its words, its sharers, and the blocks that it reserves.
+// The settings tables: the form of their words, their sharers, and the blocks that each reserves.
+use crate::parts::differ_part;
 use crate::parts::part_end;
+use crate::parts::part_rows;
 use crate::parts::pick;
 use crate::parts::union_part;
 use crate::rows::shared_part;
 use setup::Setup;
 ghost use mathlib.Core.Path.{_≡_};
+ghost use mathlib.Core.Bool.{_&&_};
 ghost use Prim.Native.Nat.{_*_, _≤_};
+ghost use lib.Dec.{eqb, leb};
 ghost use lib.ListN.{length};
 ghost use Rattle.bandwidth_model.specs.Rules.{pairs};
 ghost use Rattle.bandwidth_model.specs.Facts.{Ranges};
@@ -86,40 +90,89 @@ fn look_part(t: &[u32], lo: usize, hi: usize, na: u32, seen: Found) -> Found
     }
 }
 
-// A whole table, about 128 words at a time.
-fn look(t: &[u32], nr: usize, na: u32) -> Found
-    requires { ⌜ ((1 ≤ na) × (na ≤ 8)) × ((nr ≤ 256) × (nr * na ≡ length (now t))) ⌝ }
-    ensures { λ r. ⌜ Looked na (now (t .entry)) nr (r .form) (r .rows) (r .blocks) ⌝ }
+// The same of the configured table, where the table in force is looked at before and after: a part that both have adds the same.
+fn look_beside(
+    active: &[u32],
+    configured: &[u32],
+    lo: usize,
+    hi: usize,
+    na: u32,
+    before: Found,
+    after: Found,
+    seen: Found,
+) -> Found
+    requires { ⌜ (Part na lo hi (now active) × (length (now active) ≡ length (now configured))) × (Looked na (now active) lo (before .form) (before .rows) (before .blocks) × (Looked na (now active) hi (after .form) (after .rows) (after .blocks) × Looked na (now configured) lo (seen .form) (seen .rows) (seen .blocks))) ⌝ }
+    ensures { λ r. ⌜ Looked na (now (configured .entry)) hi (r .form) (r .rows) (r .blocks) ⌝ }
 {
-    let step = (127 / na) as usize + 1;
-    let mut seen = Found {
+    let differ = differ_part(active, configured, lo * na as usize, hi * na as usize);
+    if differ | after.form | after.rows != 0 {
+        return look_part(configured, lo, hi, na, seen);
+    }
+    let more = after.blocks - before.blocks;
+    let blocks = seen.blocks + more;
+    Found {
+        form: seen.form,
+        rows: seen.rows,
+        blocks: blocks,
+    }
+}
+
+struct Both {
+    active: Found,
+    configured: Found,
+}
+
+// Both tables whole, part by part.
+fn look(active: &[u32], configured: &[u32], nr: usize, na: u32) -> Both
+    requires { ⌜ ((1 ≤ na) × (na ≤ 8)) × ((nr ≤ 256) × ((nr * na ≡ length (now active)) × (nr * na ≡ length (now configured)))) ⌝ }
+    ensures { λ r. ⌜ Looked na (now (active .entry)) nr (r .active .form) (r .active .rows) (r .active .blocks) × Looked na (now (configured .entry)) nr (r .configured .form) (r .configured .rows) (r .configured .blocks) ⌝ }
+{
+    let step = part_rows(na);
+    let mut a = Found {
         form: 0,
         rows: 0,
         blocks: 0,
     };
+    let mut c = a;
     let mut r = 0usize;
     while r < nr {
         let e = part_end(r, step, nr);
-        seen = look_part(t, r, e, na, seen);
+        let after = look_part(active, r, e, na, a);
+        c = look_beside(active, configured, r, e, na, a, after, c);
+        a = after;
         r = e;
     }
-    seen
+    Both {
+        active: a,
+        configured: c,
+    }
+}
+
+// Whether nothing is wrong in a table, and it reserves no more blocks than it may.
+fn lawful(found: Found, most: u64) -> bool
+    ensures { λ r. ⌜ r ≡ (eqb (found .form) 0 && eqb (found .rows) 0 && leb (found .blocks) most) ⌝ }
+{
+    (found.form == 0) & (found.rows == 0) & (found.blocks as u64 <= most)
 }
 
 pub struct Settings {
     pub ok: bool,
-    pub blocks: u64,
+    pub active: u64,
+    pub configured: u64,
 }
 
-// Whether a settings table is well formed, and the blocks that it reserves.
-pub fn settings_ok(setup: Setup, t: &[u32]) -> Settings
-    requires { ⌜ Ranges (setupOf setup) × (length (now t) ≡ pairs (setupOf setup)) ⌝ }
-    ensures { λ r. ⌜ SettingsSeen (setupOf setup) (now (t .entry)) r ⌝ }
+// Whether the settings tables are well formed, and the blocks that each reserves.
+pub fn settings_ok(setup: Setup, active: &[u32], configured: &[u32]) -> Settings
+    requires { ⌜ Ranges (setupOf setup) × ((length (now active) ≡ pairs (setupOf setup)) × (length (now configured) ≡ pairs (setupOf setup))) ⌝ }
+    ensures { λ r. ⌜ SettingsSeen (setupOf setup) (now (active .entry)) (now (configured .entry)) r ⌝ }
 {
-    let seen = look(t, setup.nr as usize, setup.na as u32);
-    let blocks = seen.blocks as u64;
+    let seen = look(active, configured, setup.nr as usize, setup.na as u32);
+    let a = seen.active;
+    let c = seen.configured;
+    let ok = lawful(a, setup.mrbwb) & lawful(c, setup.mrbwb);
     Settings {
-        ok: (seen.form == 0) & (seen.rows == 0) & (blocks <= setup.mrbwb),
-        blocks: blocks,
+        ok: ok,
+        active: a.blocks as u64,
+        configured: c.blocks as u64,
     }
 }

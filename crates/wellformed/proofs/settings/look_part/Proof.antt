@@ -1,21 +1,16 @@
 -- `wellformed::settings::look_part` meets its contract.
 use mathlib.Core.Path.{sym, _∙_}
-use native.Mathlib.Nat.{mul-le-mul-right}
 use native.Mathlib.Omega.{arith}
 use borrow.Author.Needs.{needs}
-use Rattle.wellformed.proofs.Passes.{part-skip, rows-skip}
+use Rattle.wellformed.proofs.Passes.{words-order, part-skip, rows-skip}
 use Rattle.wellformed.proofs.settings.look_part.Statement.{statement}
 use Rattle.wellformed.proofs.settings.look_part.Tie as tie
 
 mul-first : tie.Need-mul-first
-mul-first c =
-    let a = c .before .args in
-    record { fits = omega (arith, mul-le-mul-right {m = a .lo} {n = a .hi} (a .na) (c .before .pre .0 .order), c .before .pre .0 .inside) }
+mul-first c = record { fits = omega (arith, words-order (c .before .pre .0), c .before .pre .0 .inside) }
 
 union-part-requires : tie.Need-union-part-requires
-union-part-requires c κs =
-    let a = c .before .args in
-    (mul-le-mul-right {m = a .lo} {n = a .hi} (a .na) (c .before .pre .0 .order), c .before .pre .0 .inside)
+union-part-requires c κs = (words-order (c .before .pre .0), c .before .pre .0 .inside)
 
 returns : tie.Need-returns
 returns c =
@@ -26,9 +21,8 @@ returns c =
 
 scan-part-requires : tie.Need-scan-part-requires
 scan-part-requires c κs =
-    let s = c .before .before .before in
-    let a = s .args in
-    ((mul-le-mul-right {m = a .lo} {n = a .hi} (a .na) (s .pre .0 .order), (s .pre .0 .inside, s .pre .0 .few)), s .pre .1 .words)
+    let p = c .before .before .before .pre in
+    ((words-order (p .0), (p .0 .inside, p .0 .few)), p .1 .words)
 
 returns-2 : tie.Need-returns-2
 returns-2 c =
