@@ -1,17 +1,18 @@
 -- One turn of each pass, and the parts that a pass leaves out.
 use mathlib.Core.Path.{_≡_, refl, sym, ap, _∙_}
+use mathlib.Core.Bool.{cond}
 use mathlib.Core.List.{List}
 use Prim.Native.Nat.{ℕ, zero, suc, _+_, _-_, _*_, _/_, _%_, _^_, _≤_, _<_}
-use native.Mathlib.Nat.{add-zero, add-suc, add-sub-of-le, zero-mul, one-mul, suc-mul, mul-le-mul, mul-le-mul-right, mod-eq-of-lt, le-trans, le-of-eq}
+use native.Mathlib.Nat.{add-zero, add-suc, add-sub-of-le, zero-mul, one-mul, suc-mul, mul-le-mul, mul-le-mul-left, mul-le-mul-right, mod-eq-of-lt, le-trans, le-of-eq}
 use native.Mathlib.Numerals.{add-one}
 use native.Mathlib.Omega.{arith}
 use borrow.Author.Count.{below-more}
 use lib.Bits.{bitOr, bitXor, or-zero-r, xor-add-and, and-le-l, and-le-r}
-use lib.Dec.{leb, le→leb}
+use lib.Dec.{leb, leb→le, le→leb}
 use lib.ListN.{length, getD}
 use lib.Pow.{pow-mono}
 use Rattle.tables.specs.Below.{sumBelow, gather}
-use Rattle.tables.proofs.Tests.{cond-yes}
+use Rattle.tables.proofs.Tests.{cases, cond-yes}
 use Rattle.tables.proofs.Laws.{sum-none, sum-add, sum-same, sum-le, sum-zero}
 use Rattle.bandwidth_model.specs.Rules.{useSharedOf}
 use Rattle.wellformed.specs.Bits.{formBits, formAt, blocksAt, mark, markAt, lacking, rowAt, overAt, AtMost, Looked, Part}
@@ -183,10 +184,27 @@ looked-none na t =
       rows-are = sym (gather-none (rowAt na t));
     }
 
--- a part of which nothing is used
-pub used-skip : (q : ℕ) (active used : List ℕ) (lo hi any : ℕ) → lo ≤ hi → AtMost (λ k. getD used k 0) lo hi any → any ≡ 0
-    → gather hi (overAt q active used) ≡ gather lo (overAt q active used)
-unfolding overAt
-used-skip q active used lo hi any l h z =
-    skipped lo hi l (overAt q active used)
-    (λ k a b. cond-yes (leb (getD used k 0) (blocksAt active k * q)) 0 4294967295 (le→leb (getD used k 0) (blocksAt active k * q) (omega (arith, h .each k a b))))
+-- ---- parts with not too much used
+
+module _ (q : ℕ) (active used : List ℕ) (k : ℕ) where
+  within : getD used k 0 ≤ blocksAt active k * q → overAt q active used k ≡ 0
+  unfolding overAt
+  within h = cond-yes (leb (getD used k 0) (blocksAt active k * q)) 0 4294967295 (le→leb (getD used k 0) (blocksAt active k * q) h)
+
+  not-over : overAt q active used k ≡ 0 → getD used k 0 ≤ blocksAt active k * q
+  unfolding overAt
+  not-over =
+      cases (λ b. _≡_ {A = ℕ} (cond b 0 4294967295) 0 → getD used k 0 ≤ blocksAt active k * q) (leb (getD used k 0) (blocksAt active k * q))
+      (λ t e. leb→le (getD used k 0) (blocksAt active k * q) t) (λ t e. absurd (omega arith))
+
+module _ (q : ℕ) (active used : List ℕ) (lo hi any : ℕ) (order : lo ≤ hi) (z : any ≡ 0) where
+  -- nothing is used
+  pub used-skip : AtMost (λ k. getD used k 0) lo hi any → gather hi (overAt q active used) ≡ gather lo (overAt q active used)
+  used-skip h = skipped lo hi order (overAt q active used) (λ k a b. within q active used k (omega (arith, h .each k a b)))
+
+  -- no more than a smaller q allows
+  pub rough-skip : (p : ℕ) → p ≤ q → AtMost (overAt p active used) lo hi any → gather hi (overAt q active used) ≡ gather lo (overAt q active used)
+  rough-skip p l h =
+      skipped lo hi order (overAt q active used)
+      (λ k a b. within q active used k
+      (le-trans (not-over p active used k (omega (arith, h .each k a b))) (mul-le-mul-left (blocksAt active k) l)))
