@@ -14,7 +14,6 @@ use lib.Pow.{pow-mono}
 use Rattle.tables.specs.Below.{sumBelow, gather}
 use Rattle.tables.proofs.Tests.{cases, cond-yes}
 use Rattle.tables.proofs.Laws.{sum-none, sum-add, sum-same, sum-le, sum-zero}
-use Rattle.bandwidth_model.specs.Rules.{useSharedOf}
 use Rattle.wellformed.specs.Bits.{formBits, formAt, blocksAt, mark, markAt, lacking, rowAt, overAt, AtMost, Looked, Part}
 use Rattle.tables.proofs.Gather.{gather-none, gather-zero}
 use Rattle.wellformed.proofs.Bits.{or-ge-l, or-ge-r}
@@ -24,7 +23,7 @@ use Rattle.wellformed.proofs.Marks.{held-row}
 -- ---- sizes
 
 -- shifts that lose nothing
-pub shift-some : (a : ℕ) → a < 8 → 65536 * 2 ^ a % 4294967296 ≡ 65536 * 2 ^ a
+pub shift-some : (a : ℕ) → a < 8 → 16777216 * 2 ^ a % 4294967296 ≡ 16777216 * 2 ^ a
 shift-some a h = let p : 2 ^ a ≤ 128 = pow-mono {i = a} {j = 7} (omega arith) in mod-eq-of-lt (omega arith)
 
 pub shift-shared : (w : ℕ) → w < 4294967296 → 1 * 2 ^ (w / 268435456) % 4294967296 ≡ 2 ^ (w / 2 ^ 28)
@@ -102,11 +101,11 @@ module _ (lo hi : ℕ) (order : lo ≤ hi) where
   summed f g h =
       omega (arith, sum-from f, sum-from g, sum-same (hi - lo) (λ i. f (lo + i)) (λ i. g (lo + i)) (λ k b. h (lo + k) (omega arith) (omega arith)))
 
--- rows of a part: with no sharer, and of words 0
+-- rows of a part: where no AT is named, and of words 0
 module _ (na lo hi : ℕ) (t : List ℕ) (any : ℕ) (fit : (i : ℕ) → getD t i 0 < 4294967296) (order : lo ≤ hi)
     (h : AtMost (λ k. getD t k 0) (lo * na) (hi * na) any) where
-  pub rows-skip : any < 2147483648 → gather hi (rowAt na t) ≡ gather lo (rowAt na t)
-  unfolding rowAt markAt useSharedOf
+  pub rows-skip : any < 268435456 → gather hi (rowAt na t) ≡ gather lo (rowAt na t)
+  unfolding rowAt markAt
   rows-skip s =
       skipped lo hi order (rowAt na t)
       (λ k a b. held-row na (λ x. getD t (k * na + x) 0) (λ x. fit (k * na + x))

@@ -1,8 +1,10 @@
 // Parts of a table: where one ends, what all its words are at most, and how far those of two tables differ.
+use tables::word32;
 ghost use mathlib.Core.Path.{_≡_};
 ghost use mathlib.Core.Bool.{cond};
 ghost use Prim.Native.Nat.{_<_, _≤_};
 ghost use lib.Bits.{bitXor};
+ghost use lib.Dec.{T};
 ghost use lib.ListN.{length, getD};
 ghost use Rattle.wellformed.specs.Bits.{AtMost};
 
@@ -40,6 +42,17 @@ pub fn union_part(t: &[u32], lo: usize, hi: usize) -> u32
         bits = bits | t[i];
     }
     bits
+}
+
+// Whether every word from lo to below hi is 0; the first word mostly tells.
+pub fn empty_part(t: &[u32], lo: usize, hi: usize) -> bool
+    requires { ⌜ (lo ≤ hi) × (hi ≤ length (now t)) ⌝ }
+    ensures { λ r. ⌜ (T r → AtMost (λ k. getD (now (t .entry)) k 0) lo hi 0) ⌝ }
+{
+    if word32(t, lo) != 0 {
+        return false;
+    }
+    union_part(t, lo, hi) == 0
 }
 
 // All the bits in which two tables differ from lo to below hi.

@@ -1,51 +1,53 @@
 // The settings tables: the form of their words, their sharers, and the blocks that each reserves.
 use crate::parts::differ_part;
+use crate::parts::empty_part;
 use crate::parts::part_end;
 use crate::parts::part_rows;
 use crate::parts::pick;
-use crate::parts::union_part;
 use crate::rows::shared_part;
 use setup::Setup;
 ghost use mathlib.Core.Path.{_≡_};
 ghost use mathlib.Core.Bool.{_&&_};
 ghost use Prim.Native.Nat.{_*_, _≤_};
 ghost use lib.Dec.{eqb, leb};
-ghost use lib.ListN.{length};
+ghost use lib.ListN.{length, getD};
 ghost use Rattle.bandwidth_model.specs.Rules.{pairs};
 ghost use Rattle.bandwidth_model.specs.Facts.{Ranges};
 ghost use Rattle.setup.specs.View.{setupOf};
-ghost use Rattle.wellformed.specs.Bits.{formBits, Scanned, Looked, Part};
+ghost use Rattle.wellformed.specs.Bits.{formBits, AtMost, Scanned, Looked, Part};
 ghost use Rattle.wellformed.specs.Tables.{SettingsSeen};
 
 // The bits of a settings word that may not be there.
 fn form_bits(w: u32) -> u32
     ensures { λ r. ⌜ r ≡ formBits w ⌝ }
 {
-    let sharing = pick(w >> 31 == 1, 0xffff, 0x7000_0000);
-    let empty = pick(w % 65536 == 0, 0x0ff0_0000, 0);
-    w & (0x000f_0000 | sharing | empty)
+    w & pick(w % 65536 == 0, 0x0fff_ffff, 0xf00f_0000)
 }
 
 struct Scan {
-    bits: u32,
+    any: u32,
+    form: u32,
     blocks: u32,
 }
 
-// The words from lo to below hi, after those below lo.
-fn scan_part(t: &[u32], lo: usize, hi: usize, seen: Scan) -> Scan
-    requires { ⌜ ((lo ≤ hi) × ((hi ≤ length (now t)) × (length (now t) ≤ 2048))) × Scanned (now t) lo (seen .bits) (seen .blocks) ⌝ }
-    ensures { λ r. ⌜ Scanned (now (t .entry)) hi (r .bits) (r .blocks) ⌝ }
+// The words from lo to below hi, after those below lo; any is of these words alone.
+fn scan_part(t: &[u32], lo: usize, hi: usize, form: u32, blocks: u32) -> Scan
+    requires { ⌜ ((lo ≤ hi) × ((hi ≤ length (now t)) × (length (now t) ≤ 2048))) × Scanned (now t) lo form blocks ⌝ }
+    ensures { λ r. ⌜ Scanned (now (t .entry)) hi (r .form) (r .blocks) × AtMost (λ k. getD (now (t .entry)) k 0) lo hi (r .any) ⌝ }
 {
-    let mut bits = seen.bits;
-    let mut blocks = seen.blocks;
+    let mut any = 0u32;
+    let mut bits = form;
+    let mut sum = blocks;
     for i in lo..hi {
         let w = t[i];
+        any = any | w;
         bits = bits | form_bits(w);
-        blocks = blocks + w % 65536;
+        sum = sum + w % 65536;
     }
     Scan {
-        bits: bits,
-        blocks: blocks,
+        any: any,
+        form: bits,
+        blocks: sum,
     }
 }
 
@@ -55,37 +57,32 @@ struct Found {
     blocks: u32,
 }
 
-// The rows from lo to below hi, after those below lo: a part that is all 0 is passed over, and so are the rows of a part with no sharer.
-fn look_part(t: &[u32], lo: usize, hi: usize, na: u32, seen: Found) -> Found
-    requires { ⌜ Part na lo hi (now t) × Looked na (now t) lo (seen .form) (seen .rows) (seen .blocks) ⌝ }
+// The rows from lo to below hi, after those below lo: a part that is all 0 is passed over, and so are the rows of a part that names no AT.
+fn look_part(t: &[u32], lo: usize, hi: usize, na: u32, form: u32, rows: u32, blocks: u32) -> Found
+    requires { ⌜ Part na lo hi (now t) × Looked na (now t) lo form rows blocks ⌝ }
     ensures { λ r. ⌜ Looked na (now (t .entry)) hi (r .form) (r .rows) (r .blocks) ⌝ }
 {
     let first = lo * na as usize;
     let last = hi * na as usize;
-    let any = union_part(t, first, last);
-    if any == 0 {
-        return seen;
-    }
-    let s = scan_part(
-        t,
-        first,
-        last,
-        Scan {
-            bits: seen.form,
-            blocks: seen.blocks,
-        },
-    );
-    if any >> 31 == 0 {
+    if empty_part(t, first, last) {
         return Found {
-            form: s.bits,
-            rows: seen.rows,
+            form: form,
+            rows: rows,
+            blocks: blocks,
+        };
+    }
+    let s = scan_part(t, first, last, form, blocks);
+    if s.any >> 28 == 0 {
+        return Found {
+            form: s.form,
+            rows: rows,
             blocks: s.blocks,
         };
     }
-    let rows = shared_part(t, lo, hi, na, seen.rows);
+    let shared = shared_part(t, lo, hi, na, rows);
     Found {
-        form: s.bits,
-        rows: rows,
+        form: s.form,
+        rows: shared,
         blocks: s.blocks,
     }
 }
@@ -106,7 +103,7 @@ fn look_beside(
 {
     let differ = differ_part(active, configured, lo * na as usize, hi * na as usize);
     if differ | after.form | after.rows != 0 {
-        return look_part(configured, lo, hi, na, seen);
+        return look_part(configured, lo, hi, na, seen.form, seen.rows, seen.blocks);
     }
     let more = after.blocks - before.blocks;
     let blocks = seen.blocks + more;
@@ -137,7 +134,7 @@ fn look(active: &[u32], configured: &[u32], nr: usize, na: u32) -> Both
     let mut r = 0usize;
     while r < nr {
         let e = part_end(r, step, nr);
-        let after = look_part(active, r, e, na, a);
+        let after = look_part(active, r, e, na, a.form, a.rows, a.blocks);
         c = look_beside(active, configured, r, e, na, a, after, c);
         a = after;
         r = e;
