@@ -24,7 +24,7 @@ use Rattle.wellformed.specs.Bits.{formAt, blocksAt, markAt, rowAt, overA
 use Rattle.wellformed.specs.Tables.{tablesOk}
 use Rattle.tables.proofs.Gather.{gather-zero, zero-gather, none-bad}
 use Rattle.wellformed.proofs.Forms as forms
-use Rattle.wellformed.proofs.Forms.{Form, low-blocks, formed, form-of, form-reserved}
+use Rattle.wellformed.proofs.Forms.{Form, low-blocks, shares-top, formed, form-of, form-shares, form-reserved}
 use Rattle.wellformed.proofs.Marks.{Led, row-held, held-row}
 
 -- ---- one word
@@ -48,11 +48,14 @@ module _ {su : Setup} {t : List ℕ} {rcid at w : ℕ} where
 -- ---- a whole table
 
 module _ (su : Setup) (t : List ℕ) (long : length t ≡ pairs su) where
-  words-form : TableFacts su t → (i : ℕ) → i < pairs su → Form (getD t i 0)
+  by-pair : ((rcid at : ℕ) → rcid < su .nr → at < su .na → Form (wordAt (su .na) t rcid at)) → (i : ℕ) → i < pairs su → Form (getD t i 0)
   unfolding pairs wordAt
-  words-form f i l =
+  by-pair f i l =
       let p = pair-of (su .nr) (su .na) i l in
-      subst (λ (k : ℕ). Form (getD t k 0)) (sym (p .is)) (view-form (f .words (i / su .na) (i % su .na) (p .rcid-low) (p .at-low)))
+      subst (λ (k : ℕ). Form (getD t k 0)) (sym (p .is)) (f (i / su .na) (i % su .na) (p .rcid-low) (p .at-low))
+
+  words-form : TableFacts su t → (i : ℕ) → i < pairs su → Form (getD t i 0)
+  words-form f = by-pair (λ rcid at hr ha. view-form (f .words rcid at hr ha))
 
   -- in a well-formed table a word reserves its Rbwb
   pub blocks-reserved : T (tableOk su t) → (i : ℕ) → i < pairs su → reserved (getD t i 0) ≡ rbwbOf (getD t i 0)
@@ -67,19 +70,20 @@ module _ (su : Setup) (t : List ℕ) (long : length t ≡ pairs su) where
   module _ (fit : (i : ℕ) → getD t i 0 < 4294967296) where
     -- from the passes to the facts
     module _ (form : gather (su .nr * su .na) (formAt t) ≡ 0) (rows : gather (su .nr) (rowAt (su .na) t) ≡ 0) where
-      word : (i : ℕ) → i < pairs su → Form (getD t i 0)
-      unfolding pairs formAt
-      word i l = formed (getD t i 0) (fit i) (gather-zero (su .nr * su .na) (formAt t) form i l)
-
       module _ (rcid at : ℕ) (hr : rcid < su .nr) (ha : at < su .na) where
-        pair-form : Form (wordAt (su .na) t rcid at)
-        unfolding pairs wordAt
-        pair-form = word (pair (su .na) rcid at) (pair-inside (su .nr) (su .na) rcid at hr ha)
-
         led : Led (su .na) (wordAt (su .na) t rcid) at
         unfolding wordAt pair rowAt markAt
         led =
             row-held (su .na) (wordAt (su .na) t rcid) (λ a. fit (rcid * su .na + a)) (gather-zero (su .nr) (rowAt (su .na) t) rows rcid hr) at ha
+
+        pair-form : Form (wordAt (su .na) t rcid at)
+        unfolding pairs wordAt formAt
+        pair-form =
+            let i = pair (su .na) rcid at in
+            formed (getD t i 0) (fit i) (gather-zero (su .nr * su .na) (formAt t) form i (pair-inside (su .nr) (su .na) rcid at hr ha)) (λ p. led p .0)
+
+      word : (i : ℕ) → i < pairs su → Form (getD t i 0)
+      word = by-pair pair-form
 
       view : (rcid at : ℕ) → rcid < su .nr → at < su .na → View su t rcid at (wordAt (su .na) t rcid at)
       view rcid at hr ha = by (pair-form rcid at hr ha)
@@ -91,7 +95,7 @@ module _ (su : Setup) (t : List ℕ) (long : length t ≡ pairs su) where
           by (forms.unset z) = unset z
           by (forms.holder s u p) = holds s u p
           by (forms.sharer s u n) =
-              let g = led rcid at hr ha u in
+              let g = led rcid at hr ha (shares-top w u) .1 in
               follows s (not-0 w u) (λ e. g .1 (ap (λ (a : ℕ). rbwbOf (wordAt (su .na) t rcid a)) e ∙ n)) (g .0)
               (form-holder (pair-form rcid (sharedAtOf w) hr (g .0)) (g .1))
 
@@ -107,9 +111,18 @@ module _ (su : Setup) (t : List ℕ) (long : length t ≡ pairs su) where
         (λ rcid hr. held-row (su .na) (wordAt (su .na) t rcid) (λ a. fit (rcid * su .na + a)) (λ at ha. leads rcid at hr (f .words rcid at hr ha)))
       where
         leads : (rcid at : ℕ) → rcid < su .nr → View su t rcid at (wordAt (su .na) t rcid at) → Led (su .na) (wordAt (su .na) t rcid) at
-        leads rcid at hr (unset z) u = absurd (not-0 (wordAt (su .na) t rcid at) u (ap useSharedOf z ∙ shared-0))
-        leads rcid at hr (holds s v p) u = absurd (not-0 (wordAt (su .na) t rcid at) u v)
-        leads rcid at hr (follows s d o k h) u = (k, holder-blocks (f .words rcid (sharedAtOf (wordAt (su .na) t rcid at)) hr k) h)
+        leads rcid at hr v p = by v
+          where
+            w : ℕ
+            w = wordAt (su .na) t rcid at
+
+            u : useSharedOf w ≡ 1
+            u = form-shares w (fit (rcid * su .na + at)) (view-form v) p
+
+            by : View su t rcid at w → (useSharedOf w ≡ 1) × ((sharedAtOf w < su .na) × (rbwbOf (wordAt (su .na) t rcid (sharedAtOf w)) ≡ 0 → ⊥))
+            by (unset z) = absurd (not-0 w u (ap useSharedOf z ∙ shared-0))
+            by (holds s v p) = absurd (not-0 w u v)
+            by (follows s d o k h) = (u, (k, holder-blocks (f .words rcid (sharedAtOf w) hr k) h))
 
     module _ {form rows blocks : ℕ} (l : Looked (su .na) t (su .nr) form rows blocks) where
       there : T (eqb form 0 && eqb rows 0 && leb blocks (su .mrbwb)) → T (tableOk su t)
@@ -126,7 +139,7 @@ module _ (su : Setup) (t : List ℕ) (long : length t ≡ pairs su) where
             words = view nf nr;
           })
 
-      pub blocks-total : T (tableOk su t) → blocks ≡ total t
+      blocks-total : T (tableOk su t) → blocks ≡ total t
       blocks-total k = l .words .blocks-are ∙ sums (words-form (table-facts su t long k))
 
       back : T (tableOk su t) → T (eqb form 0 && eqb rows 0 && leb blocks (su .mrbwb))
@@ -137,8 +150,10 @@ module _ (su : Setup) (t : List ℕ) (long : length t ≡ pairs su) where
           let d : T (leb blocks (su .mrbwb)) = le→leb blocks (su .mrbwb) (le-trans (le-of-eq (blocks-total k)) (f .bounded)) in
           search and-in
 
-      pub table-test : (eqb form 0 && eqb rows 0 && leb blocks (su .mrbwb)) ≡ tableOk su t
-      table-test = same-test (eqb form 0 && eqb rows 0 && leb blocks (su .mrbwb)) (tableOk su t) there back
+      pub table-test : {x : Bool} → x ≡ (eqb form 0 && eqb rows 0 && leb blocks (su .mrbwb)) → (x ≡ tableOk su t) × (T x → blocks ≡ total t)
+      table-test e =
+          let k = e ∙ same-test (eqb form 0 && eqb rows 0 && leb blocks (su .mrbwb)) (tableOk su t) there back in
+          (k, λ h. blocks-total (subst T k h))
 
 -- ---- used bytes
 
@@ -153,9 +168,9 @@ used-test q n active used =
 -- ---- all tables
 
 -- a part of a test that matters only where its first part holds
-guarded : (a c u v k e : Bool) → (T a → u ≡ v) → (a && c && u && k && e) ≡ (a && c && v && k && e)
-guarded true c u v k e h = rw (h tt)
-guarded false c u v k e h = refl
+guarded : (s u v k e : Bool) → (T s → u ≡ v) → (s && u && k && e) ≡ (s && v && k && e)
+guarded true u v k e h = rw (h tt)
+guarded false u v k e h = refl
 
 module _ (su : Setup) (active configured used counters events : List ℕ) (z : Sized su active configured used counters events) where
   within : ℕ → Bool
@@ -168,11 +183,12 @@ module _ (su : Setup) (active configured used counters events : List ℕ) (z : S
       ∙ all-same (pairs su) _ within
       (λ i l. ap (λ (b : ℕ). leb (getD used i 0) (b * su .q)) (sym (blocks-reserved su active (z .active-long) k i l)))
 
-  pub tables-test : {a c u k e : Bool} → a ≡ tableOk su active → c ≡ tableOk su configured
+  pub tables-test : {s u k e : Bool} → s ≡ (tableOk su active && tableOk su configured)
       → u ≡ allBelow (length used) (λ i. leb (getD used i 0) (rbwbOf (getD active i 0) * su .q))
       → k ≡ allBelow (length counters) (λ i. counterOk reg.bandwidthCounter reg.bandwidthCtr (su .w) (getD counters i 0))
       → e ≡ allBelow (length events) (λ i. settingOk (su .na) lastEvent (getD events i 0))
-      → (a && c && u && k && e) ≡ tablesOk su active configured used counters events
+      → (s && u && k && e) ≡ tablesOk su active configured used counters events
   unfolding tablesOk within
-  tables-test {a} {c} {u} {k} {e} ea ec eu ek ee =
-      guarded a c u (allBelow (pairs su) within) k e (λ t. eu ∙ used-reserved (subst T ea t)) ∙ rw (ea, ec, ek, ee, z .counters-long, z .events-long)
+  tables-test {s} {u} {k} {e} es eu ek ee =
+      guarded s u (allBelow (pairs su) within) k e (λ t. eu ∙ used-reserved (and-l (tableOk su active) (tableOk su configured) (subst T es t)))
+      ∙ rw (es, ek, ee, z .counters-long, z .events-long)

@@ -8,10 +8,9 @@ use lib.Dec.{leb, eqb}
 use lib.ListN.{length, getD}
 use Rattle.tables.specs.Below.{sumBelow, gather}
 
--- the bits of a settings word that may not be there: unnamed ones, a sharer's Rbwb or a holder's sharedAT, the Mweight of a word with no Rbwb
+-- the bits of a settings word that may not be there: unnamed ones, the Mweight of a word with no Rbwb, useShared and sharedAT beside an Rbwb
 unfoldable pub formBits : ℕ → ℕ
-formBits w =
-    bitAnd w (bitOr (bitOr 0x000f0000 (cond (eqb (w / 2 ^ 31) 1) 0xffff 0x70000000)) (cond (eqb (w % 65536) 0) 0x0ff00000 0))
+formBits w = bitAnd w (cond (eqb (w % 65536) 0) 0x0fffffff 0xf00f0000)
 
 unfoldable pub formAt : List ℕ → ℕ → ℕ
 formAt t i = formBits (getD t i 0)
@@ -20,18 +19,18 @@ formAt t i = formBits (getD t i 0)
 unfoldable pub blocksAt : List ℕ → ℕ → ℕ
 blocksAt t i = getD t i 0 % 65536
 
--- what the word w at AT a says of its row: bit 16 + a, that it has blocks; bit 8 + s, that it shares AT s
+-- what the word w at AT a says of its row: bit 24 + a, that it has blocks; bit 8 + s, that it shares AT s; bit s, that it names AT s and does not share
 unfoldable pub mark : ℕ → ℕ → ℕ
-mark a w = bitOr (cond (not (eqb (w % 65536) 0)) (65536 * 2 ^ a) 0) (2 ^ (w / 2 ^ 28))
+mark a w = bitOr (cond (not (eqb (w % 65536) 0)) (16777216 * 2 ^ a) 0) (2 ^ (w / 2 ^ 28))
 
 unfoldable pub markAt : List ℕ → ℕ → ℕ → ℕ
 markAt t base a = mark a (getD t (base + a) 0)
 
--- the bits 15:8 of m that its bits from 16 on lack
+-- the bits 15:1 of m that its bits from 16 on lack
 unfoldable pub lacking : ℕ → ℕ
-lacking m = bitOr (m / 2 ^ 8 % 256) (m / 2 ^ 16) - m / 2 ^ 16
+lacking m = bitOr (m % 65536) (bitOr (m / 2 ^ 16) 1) - bitOr (m / 2 ^ 16) 1
 
--- the ATs of an RCID that are shared and have no blocks
+-- the ATs of an RCID that are shared and have no blocks, or named and not shared
 unfoldable pub rowAt : ℕ → List ℕ → ℕ → ℕ
 rowAt na t rcid = lacking (gather na (markAt t (rcid * na)))
 
@@ -39,9 +38,9 @@ rowAt na t rcid = lacking (gather na (markAt t (rcid * na)))
 unfoldable pub overAt : ℕ → List ℕ → List ℕ → ℕ → ℕ
 overAt q active used i = cond (leb (getD used i 0) (blocksAt active i * q)) 0 4294967295
 
--- no word of a part is above any
-pub record AtMost (t : List ℕ) (lo hi any : ℕ) : Type 0 where
-  pub each : (k : ℕ) → lo ≤ k → k < hi → getD t k 0 ≤ any
+-- nothing that f says of a part is above any
+pub record AtMost (f : ℕ → ℕ) (lo hi any : ℕ) : Type 0 where
+  pub each : (k : ℕ) → lo ≤ k → k < hi → f k ≤ any
 
 -- the words below n are scanned
 pub record Scanned (t : List ℕ) (n bits blocks : ℕ) : Type 0 where

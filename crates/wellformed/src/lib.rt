@@ -35,14 +35,13 @@ pub fn tables_ok(
     requires { ⌜ Ranges (setupOf setup) × Sized (setupOf setup) (now active) (now configured) (now used) (now counters) (now events) ⌝ }
     ensures { λ r. ⌜ TablesSeen (setupOf setup) (now (active .entry)) (now (configured .entry)) (now (used .entry)) (now (counters .entry)) (now (events .entry)) r ⌝ }
 {
-    let a = settings_ok(setup, active);
-    let c = settings_ok(setup, configured);
+    let s = settings_ok(setup, active, configured);
     let u = used_ok(active, used, setup.q as u32);
     let k = bandwidth_counters_ok(counters, setup.w as u32);
     let e = events_ok(events, setup.na as u16, LAST_EVENT);
     Seen {
-        ok: a.ok & c.ok & u & k & e,
-        active: a.blocks,
-        configured: c.blocks,
+        ok: s.ok & u & k & e,
+        active: s.active,
+        configured: s.configured,
     }
 }
