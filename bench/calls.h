@@ -61,7 +61,7 @@ static struct setup random_setup(void)
 
 /* Random lawful tables */
 
-static void random_row(uint8_t *table, const struct setup *s, uint64_t rcid, uint64_t *left)
+static void random_row(void *table, const struct setup *s, uint64_t rcid, uint64_t *left)
 {
     uint8_t holders[8], count = 0;
     uint64_t row = rcid * s->na;
@@ -79,7 +79,7 @@ static void random_row(uint8_t *table, const struct setup *s, uint64_t rcid, uin
             put_word(table, row + at, 4, (UINT64_C(8) | holders[upto(count)]) << 28);
 }
 
-static uint64_t random_settings(uint8_t *table, const struct setup *s)
+static uint64_t random_settings(void *table, const struct setup *s)
 {
     uint64_t left = s->mrbwb;
     memset(table, 0, 4 * s->nr * s->na);
@@ -89,7 +89,7 @@ static uint64_t random_settings(uint8_t *table, const struct setup *s)
     return s->mrbwb - left;
 }
 
-static void random_monitor(uint8_t *counters, uint8_t *events, const struct setup *s,
+static void random_monitor(void *counters, void *events, const struct setup *s,
                            uint64_t last_event, uint64_t flags)
 {
     for (uint64_t i = 0; i < s->nm; i++) {
@@ -130,7 +130,7 @@ static void random_capacity(struct capacity_buffers *c, const struct setup *s)
 
 /* Damage: one word of one buffer becomes another, mostly a near one. */
 
-static void damage_word(uint8_t *table, size_t length, unsigned bytes)
+static void damage_word(void *table, size_t length, unsigned bytes)
 {
     uint64_t index = upto(length / bytes);
     uint64_t word = get_word(table, index, bytes);
