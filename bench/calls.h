@@ -278,42 +278,61 @@ static struct call random_call(const struct setup *s, int bandwidth)
     return c;
 }
 
-static uint64_t call_bandwidth(const struct interface *f, struct bandwidth_buffers *b,
-                               const struct call *c, uint64_t *out)
+/* A call on slices, and on buffers. */
+
+#define FOUR(s)                                                                \
+    (s)[0].at, (s)[0].length, (s)[1].at, (s)[1].length, (s)[2].at,             \
+        (s)[2].length, (s)[3].at, (s)[3].length
+#define SIX(s) FOUR(s), (s)[4].at, (s)[4].length, (s)[5].at, (s)[5].length
+
+static uint64_t call_bandwidth_on(const struct interface *f, const struct slice *b,
+                                  const struct call *c, uint64_t *out)
 {
     const struct setup *s = &c->setup;
     switch (c->kind) {
     case RESET:
-        return f->bandwidth_reset(s->nbwblks, s->mrbwb, s->nr, s->na, s->nm, s->q, s->w,
-                                  BANDWIDTH_OF(b));
+        return f->bandwidth_reset(s->nbwblks, s->mrbwb, s->nr, s->na, s->nm, s->q, s->w, SIX(b));
     case READ:
-        return f->bandwidth_read(BANDWIDTH_OF(b), c->size, c->offset, out);
+        return f->bandwidth_read(SIX(b), c->size, c->offset, out);
     case WRITE:
-        return f->bandwidth_write(BANDWIDTH_OF(b), c->size, c->offset, c->value);
+        return f->bandwidth_write(SIX(b), c->size, c->offset, c->value);
     case REQUEST:
-        return f->bandwidth_request(BANDWIDTH_OF(b), c->rcid, c->mcid, c->at, c->which,
-                                    c->bytes, out);
+        return f->bandwidth_request(SIX(b), c->rcid, c->mcid, c->at, c->which, c->bytes, out);
     default:
-        return f->bandwidth_end_window(BANDWIDTH_OF(b));
+        return f->bandwidth_end_window(SIX(b));
     }
 }
 
-static uint64_t call_capacity(const struct interface *f, struct capacity_buffers *b,
-                              const struct call *c, uint64_t *out)
+static uint64_t call_capacity_on(const struct interface *f, const struct slice *b,
+                                 const struct call *c, uint64_t *out)
 {
     const struct setup *s = &c->setup;
     switch (c->kind) {
     case RESET:
-        return f->capacity_reset(s->ncblks, s->nr, s->na, s->nm, s->w, CAPACITY_OF(b));
+        return f->capacity_reset(s->ncblks, s->nr, s->na, s->nm, s->w, FOUR(b));
     case READ:
-        return f->capacity_read(CAPACITY_OF(b), c->size, c->offset, out);
+        return f->capacity_read(FOUR(b), c->size, c->offset, out);
     case WRITE:
-        return f->capacity_write(CAPACITY_OF(b), c->size, c->offset, c->value);
+        return f->capacity_write(FOUR(b), c->size, c->offset, c->value);
     case FILL:
-        return f->capacity_fill(CAPACITY_OF(b), c->rcid, c->mcid, c->at, c->which, out);
+        return f->capacity_fill(FOUR(b), c->rcid, c->mcid, c->at, c->which, out);
     default:
-        return f->capacity_evict(CAPACITY_OF(b), c->rcid, c->mcid, c->at, c->which);
+        return f->capacity_evict(FOUR(b), c->rcid, c->mcid, c->at, c->which);
     }
+}
+
+static inline uint64_t call_bandwidth(const struct interface *f, struct bandwidth_buffers *b,
+                                      const struct call *c, uint64_t *out)
+{
+    const struct slice list[] = BANDWIDTH_LIST(b);
+    return call_bandwidth_on(f, list, c, out);
+}
+
+static inline uint64_t call_capacity(const struct interface *f, struct capacity_buffers *b,
+                                     const struct call *c, uint64_t *out)
+{
+    const struct slice list[] = CAPACITY_LIST(b);
+    return call_capacity_on(f, list, c, out);
 }
 
 /* Rounds: a set-up, perhaps a random state, then calls, some on damaged copies.

@@ -70,6 +70,21 @@ struct capacity_buffers {
         (uint8_t *)(c)->counters, (c)->counters_len, (uint8_t *)(c)->events,   \
         (c)->events_len
 
+/* The slices of a call as a list, to be worked through in a loop. */
+struct slice {
+    uint8_t *at;
+    size_t length;
+};
+#define SLICE(buffers, name) {(uint8_t *)(buffers)->name, (buffers)->name##_len}
+#define BANDWIDTH_LIST(b)                                                      \
+    {                                                                          \
+        SLICE(b, record), SLICE(b, active), SLICE(b, configured),              \
+            SLICE(b, used), SLICE(b, counters), SLICE(b, events)               \
+    }
+#define CAPACITY_LIST(c)                                                       \
+    {SLICE(c, record), SLICE(c, masks), SLICE(c, counters), SLICE(c, events)}
+enum { BANDWIDTH_SLICE_COUNT = 6, CAPACITY_SLICE_COUNT = 4 };
+
 static inline void bandwidth_lengths(struct bandwidth_buffers *b, uint64_t nr,
                                      uint64_t na, uint64_t nm)
 {

@@ -111,11 +111,16 @@ struct trace {
 };
 static struct trace bandwidth = {.name = "bandwidth"}, capacity = {.name = "capacity"};
 
-static void add(struct trace *t, const void *table, size_t length)
+static void add(struct trace *t, const uint8_t *bytes, size_t length)
 {
-    const uint8_t *bytes = table;
     for (size_t i = 0; i < length; i++)
         t->checksum = (t->checksum ^ bytes[i]) * UINT64_C(0x100000001b3);
+}
+
+static void add_all(struct trace *t, const struct slice *list, int count)
+{
+    for (int i = 0; i < count; i++)
+        add(t, list[i].at, list[i].length);
 }
 
 /* One call's answer and the number that it handed back. */
@@ -151,6 +156,7 @@ static int same_bytes(const void *left, const void *right, size_t length)
 static void trace_bandwidth(struct bandwidth_buffers *buffers, const struct call *c)
 {
     static struct bandwidth_buffers copy;
+    const struct slice list[] = BANDWIDTH_LIST(buffers);
     copy = *buffers;
     uint64_t out = 1, answer = call_bandwidth(&library, buffers, c, &out);
     if (bandwidth_whole_words(&copy)) {
@@ -158,18 +164,14 @@ static void trace_bandwidth(struct bandwidth_buffers *buffers, const struct call
         note_words(&bandwidth, again, again == answer && value == out &&
                                           same_bytes(&copy, buffers, sizeof copy));
     }
-    add(&bandwidth, buffers->record, buffers->record_len);
-    add(&bandwidth, buffers->active, buffers->active_len);
-    add(&bandwidth, buffers->configured, buffers->configured_len);
-    add(&bandwidth, buffers->used, buffers->used_len);
-    add(&bandwidth, buffers->counters, buffers->counters_len);
-    add(&bandwidth, buffers->events, buffers->events_len);
+    add_all(&bandwidth, list, BANDWIDTH_SLICE_COUNT);
     note(&bandwidth, c->kind, answer, out);
 }
 
 static void trace_capacity(struct capacity_buffers *buffers, const struct call *c)
 {
     static struct capacity_buffers copy;
+    const struct slice list[] = CAPACITY_LIST(buffers);
     copy = *buffers;
     uint64_t out = 1, answer = call_capacity(&library, buffers, c, &out);
     if (capacity_whole_words(&copy)) {
@@ -177,10 +179,7 @@ static void trace_capacity(struct capacity_buffers *buffers, const struct call *
         note_words(&capacity, again, again == answer && value == out &&
                                          same_bytes(&copy, buffers, sizeof copy));
     }
-    add(&capacity, buffers->record, buffers->record_len);
-    add(&capacity, buffers->masks, buffers->masks_len);
-    add(&capacity, buffers->counters, buffers->counters_len);
-    add(&capacity, buffers->events, buffers->events_len);
+    add_all(&capacity, list, CAPACITY_SLICE_COUNT);
     note(&capacity, c->kind, answer, out);
 }
 
