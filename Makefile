@@ -25,6 +25,13 @@ firmware:
 firmware-run:
 	@$(MAKE) --no-print-directory -C firmware run
 
+# make install, make uninstall: header, library and pkg-config file below PREFIX=/usr/local, after make test
+LIB = target/staticlib/libcbqri.a
+include include/install.mk
+
+$(LIB):
+	@echo "$@ is not there: run make test, which proves and builds it"; exit 2
+
 fmt:
 	rt fmt
 

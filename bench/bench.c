@@ -1,7 +1,9 @@
 /*
  * Benchmark: the library beside plain.c and tuned.c, in one run on the same
- * inputs. Every call reads all tables (check 3), so "read all" is the lower
- * bound: the time to read record and tables once, adding up their words.
+ * inputs. "bytes" are its functions on bytes, "core" those on words: they make
+ * the same call without first decoding the tables into room on the stack.
+ * Every call reads all tables (check 3), so "read all" is the lower bound: the
+ * time to read record and tables once, adding up their words.
  *
  * plain.c and tuned.c are compiled by gcc and, with -DWITH_CLANG, by clang
  * too, both with -O3 for baseline x86-64; the better one counts and is named.
@@ -12,16 +14,14 @@
  *     bench [repetitions] [milliseconds for each]
  */
 #define _POSIX_C_SOURCE 200809L
-#include "interface.h"
 #include "median.h"
+#include "words.h"
 
 #include <inttypes.h>
 #include <stdio.h>
 #include <stdlib.h>
 #include <string.h>
 #include <time.h>
-
-#include "../include/cbqri.h"
 
 #define PREFIX plain_gcc_
 #include "plain.h"
@@ -38,13 +38,14 @@
 #undef PREFIX
 #endif
 
-enum group { LIBRARY, PLAIN, TUNED, GROUPS };
+enum group { BYTES, CORE, PLAIN, TUNED, GROUPS };
 
 static const struct {
     enum group group;
     struct interface f; /* its name is the compiler's */
 } versions[] = {
-    {LIBRARY, INTERFACE("", cbqri_)},
+    {BYTES, INTERFACE("", cbqri_)},
+    {CORE, INTERFACE("", words_)},
     {PLAIN, INTERFACE("gcc", plain_gcc_)},
     {TUNED, INTERFACE("gcc", tuned_gcc_)},
 #ifdef WITH_CLANG
@@ -53,10 +54,6 @@ static const struct {
 #endif
 };
 enum { VERSIONS = sizeof versions / sizeof versions[0], CALLS = 256 };
-
-/* The optional second part: an object that also measures the proved functions
- * on typed tables, without bytes, may define this; it prints its own lines. */
-extern void bench_core(void) __attribute__((weak));
 
 /* Inputs */
 
@@ -117,7 +114,7 @@ static uint64_t mixed_setting(uint64_t at)
     return kind == 5 ? 0 : cbqri_holder(1 + upto(20), upto(3));
 }
 
-static void mixed_monitor(uint8_t *counters, uint8_t *events, const struct setup *s,
+static void mixed_monitor(void *counters, void *events, const struct setup *s,
                           uint64_t last_event)
 {
     for (uint64_t i = 0; i < s->nm; i++) {
@@ -244,8 +241,9 @@ enum { MEASURED = sizeof measured / sizeof measured[0] };
 /* The lower bound */
 
 /* Four sums side by side, so that adding does not hold up reading. */
-static uint64_t sum_words(const uint8_t *bytes, size_t length)
+static uint64_t sum_words(const void *table, size_t length)
 {
+    const uint8_t *bytes = table;
     uint64_t sum[4] = {0, 0, 0, 0}, word[4];
     size_t i = 0;
     for (; i + 32 <= length; i += 32) {
@@ -310,15 +308,15 @@ static double time_reading(int bandwidth, uint64_t n)
 static uint64_t calibrate(const struct measured *m, double milliseconds)
 {
     uint64_t sum;
-    double ns = time_calls(m, &versions[1].f, 1000, &sum);
-    ns = time_calls(m, &versions[1].f, 2000, &sum);
+    double ns = time_calls(m, &versions[PLAIN].f, 1000, &sum);
+    ns = time_calls(m, &versions[PLAIN].f, 2000, &sum);
     return 1 + (uint64_t)(milliseconds * 1e6 / ns);
 }
 
 struct row {
     double ns[VERSIONS], reading;
     int best[GROUPS];
-    double to[GROUPS]; /* the library's time to the best of the group */
+    double to[GROUPS], core_to[GROUPS]; /* the library's time to the best of the group */
 };
 
 static void check_same(uint64_t sum, uint64_t *first_sum, int first, const char *name)
@@ -350,14 +348,15 @@ static void take_times(const struct measured *m, int repetitions, double millise
 
 static struct row measure(const struct measured *m, int repetitions, double milliseconds)
 {
-    struct row row = {.to = {0, 0, 0}};
+    struct row row = {.to = {0}};
     take_times(m, repetitions, milliseconds);
     for (int v = 0; v < VERSIONS; v++) {
         enum group g = versions[v].group;
-        double to = ratio(times[LIBRARY], times[v], repetitions);
+        double to = ratio(times[BYTES], times[v], repetitions);
         row.ns[v] = median(times[v], repetitions);
         if (to > row.to[g]) {
             row.to[g] = to;
+            row.core_to[g] = ratio(times[CORE], times[v], repetitions);
             row.best[g] = v;
         }
     }
@@ -367,15 +366,24 @@ static struct row measure(const struct measured *m, int repetitions, double mill
 
 /* The table */
 
+static void print_head(void)
+{
+    printf("%105s %15s\n", "bytes", "core");
+    printf("%-19s %-7s %4s %-6s %8s %8s %8s %-5s %8s %-5s %8s %8s %7s %7s %7s\n", "call", "pairs",
+           "NM", "state", "bytes", "core", "plain", "", "tuned", "", "read all", "/plain", "/tuned",
+           "/plain", "/tuned");
+}
+
 static void print_row(const struct measured *m, const struct setup *s, const char *state,
                       const struct row *row)
 {
     int plain = row->best[PLAIN], tuned = row->best[TUNED];
     char pairs[16];
     snprintf(pairs, sizeof pairs, "%" PRIu64 " x %" PRIu64, s->nr, s->na);
-    printf("%-19s %-7s %4" PRIu64 " %-6s %9.1f %9.1f %-5s %9.1f %-5s %9.1f %7.2f %7.2f\n", m->name,
-           pairs, s->nm, state, row->ns[LIBRARY], row->ns[plain], versions[plain].f.name,
-           row->ns[tuned], versions[tuned].f.name, row->reading, row->to[PLAIN], row->to[TUNED]);
+    printf("%-19s %-7s %4" PRIu64 " %-6s %8.1f %8.1f %8.1f %-5s %8.1f %-5s %8.1f %8.2f %7.2f %7.2f"
+           " %7.2f\n", m->name, pairs, s->nm, state, row->ns[BYTES], row->ns[CORE], row->ns[plain],
+           versions[plain].f.name, row->ns[tuned], versions[tuned].f.name, row->reading,
+           row->to[PLAIN], row->to[TUNED], row->core_to[PLAIN], row->core_to[TUNED]);
     fflush(stdout);
 }
 
@@ -406,17 +414,14 @@ int main(int argc, char **argv)
     printf("ns of processor time per call, median of %d repetitions of about %.0f ms\n"
            "(window end works on its own result)\n", repetitions, milliseconds);
     printf("plain.c and tuned.c: -O3 for baseline x86-64, the better one of %s\n",
-           VERSIONS > 3 ? "gcc and clang" : "gcc alone");
-    printf("%-19s %-7s %4s %-6s %9s %9s %-5s %9s %-5s %9s %7s %7s\n", "call", "pairs", "NM",
-           "state", "cbqri", "plain", "", "tuned", "", "read all", "/plain", "/tuned");
+           VERSIONS > 4 ? "gcc and clang" : "gcc alone");
+    print_head();
     for (int i = 0; i < 3; i++) {
         for (int mixed = 1; mixed >= 0; mixed--) {
             double here = bench_state(&setups[i], mixed, repetitions, milliseconds);
             worst = here > worst ? here : worst;
         }
     }
-    if (bench_core)
-        bench_core();
     printf("worst ratio %.2f\n", worst);
     return 0;
 }

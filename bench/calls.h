@@ -61,7 +61,7 @@ static struct setup random_setup(void)
 
 /* Random lawful tables */
 
-static void random_row(uint8_t *table, const struct setup *s, uint64_t rcid, uint64_t *left)
+static void random_row(void *table, const struct setup *s, uint64_t rcid, uint64_t *left)
 {
     uint8_t holders[8], count = 0;
     uint64_t row = rcid * s->na;
@@ -79,7 +79,7 @@ static void random_row(uint8_t *table, const struct setup *s, uint64_t rcid, uin
             put_word(table, row + at, 4, (UINT64_C(8) | holders[upto(count)]) << 28);
 }
 
-static uint64_t random_settings(uint8_t *table, const struct setup *s)
+static uint64_t random_settings(void *table, const struct setup *s)
 {
     uint64_t left = s->mrbwb;
     memset(table, 0, 4 * s->nr * s->na);
@@ -89,7 +89,7 @@ static uint64_t random_settings(uint8_t *table, const struct setup *s)
     return s->mrbwb - left;
 }
 
-static void random_monitor(uint8_t *counters, uint8_t *events, const struct setup *s,
+static void random_monitor(void *counters, void *events, const struct setup *s,
                            uint64_t last_event, uint64_t flags)
 {
     for (uint64_t i = 0; i < s->nm; i++) {
@@ -130,7 +130,7 @@ static void random_capacity(struct capacity_buffers *c, const struct setup *s)
 
 /* Damage: one word of one buffer becomes another, mostly a near one. */
 
-static void damage_word(uint8_t *table, size_t length, unsigned bytes)
+static void damage_word(void *table, size_t length, unsigned bytes)
 {
     uint64_t index = upto(length / bytes);
     uint64_t word = get_word(table, index, bytes);
@@ -278,42 +278,61 @@ static struct call random_call(const struct setup *s, int bandwidth)
     return c;
 }
 
-static uint64_t call_bandwidth(const struct interface *f, struct bandwidth_buffers *b,
-                               const struct call *c, uint64_t *out)
+/* A call on slices, and on buffers. */
+
+#define FOUR(s)                                                                \
+    (s)[0].at, (s)[0].length, (s)[1].at, (s)[1].length, (s)[2].at,             \
+        (s)[2].length, (s)[3].at, (s)[3].length
+#define SIX(s) FOUR(s), (s)[4].at, (s)[4].length, (s)[5].at, (s)[5].length
+
+static uint64_t call_bandwidth_on(const struct interface *f, const struct slice *b,
+                                  const struct call *c, uint64_t *out)
 {
     const struct setup *s = &c->setup;
     switch (c->kind) {
     case RESET:
-        return f->bandwidth_reset(s->nbwblks, s->mrbwb, s->nr, s->na, s->nm, s->q, s->w,
-                                  BANDWIDTH_OF(b));
+        return f->bandwidth_reset(s->nbwblks, s->mrbwb, s->nr, s->na, s->nm, s->q, s->w, SIX(b));
     case READ:
-        return f->bandwidth_read(BANDWIDTH_OF(b), c->size, c->offset, out);
+        return f->bandwidth_read(SIX(b), c->size, c->offset, out);
     case WRITE:
-        return f->bandwidth_write(BANDWIDTH_OF(b), c->size, c->offset, c->value);
+        return f->bandwidth_write(SIX(b), c->size, c->offset, c->value);
     case REQUEST:
-        return f->bandwidth_request(BANDWIDTH_OF(b), c->rcid, c->mcid, c->at, c->which,
-                                    c->bytes, out);
+        return f->bandwidth_request(SIX(b), c->rcid, c->mcid, c->at, c->which, c->bytes, out);
     default:
-        return f->bandwidth_end_window(BANDWIDTH_OF(b));
+        return f->bandwidth_end_window(SIX(b));
     }
 }
 
-static uint64_t call_capacity(const struct interface *f, struct capacity_buffers *b,
-                              const struct call *c, uint64_t *out)
+static uint64_t call_capacity_on(const struct interface *f, const struct slice *b,
+                                 const struct call *c, uint64_t *out)
 {
     const struct setup *s = &c->setup;
     switch (c->kind) {
     case RESET:
-        return f->capacity_reset(s->ncblks, s->nr, s->na, s->nm, s->w, CAPACITY_OF(b));
+        return f->capacity_reset(s->ncblks, s->nr, s->na, s->nm, s->w, FOUR(b));
     case READ:
-        return f->capacity_read(CAPACITY_OF(b), c->size, c->offset, out);
+        return f->capacity_read(FOUR(b), c->size, c->offset, out);
     case WRITE:
-        return f->capacity_write(CAPACITY_OF(b), c->size, c->offset, c->value);
+        return f->capacity_write(FOUR(b), c->size, c->offset, c->value);
     case FILL:
-        return f->capacity_fill(CAPACITY_OF(b), c->rcid, c->mcid, c->at, c->which, out);
+        return f->capacity_fill(FOUR(b), c->rcid, c->mcid, c->at, c->which, out);
     default:
-        return f->capacity_evict(CAPACITY_OF(b), c->rcid, c->mcid, c->at, c->which);
+        return f->capacity_evict(FOUR(b), c->rcid, c->mcid, c->at, c->which);
     }
+}
+
+static inline uint64_t call_bandwidth(const struct interface *f, struct bandwidth_buffers *b,
+                                      const struct call *c, uint64_t *out)
+{
+    const struct slice list[] = BANDWIDTH_LIST(b);
+    return call_bandwidth_on(f, list, c, out);
+}
+
+static inline uint64_t call_capacity(const struct interface *f, struct capacity_buffers *b,
+                                     const struct call *c, uint64_t *out)
+{
+    const struct slice list[] = CAPACITY_LIST(b);
+    return call_capacity_on(f, list, c, out);
 }
 
 /* Rounds: a set-up, perhaps a random state, then calls, some on damaged copies.

@@ -42,26 +42,48 @@ struct interface {
 
 enum { MOST_PAIRS = 256 * 8, MOST_MCIDS = 256 };
 
-/* Buffers of either controller, with room for the largest set-up. */
+/* Buffers of either controller, with room for the largest set-up; lengths are
+ * in bytes. Tables lie where words may; a little-endian host has the same
+ * bytes in them whichever way they are written. */
 struct bandwidth_buffers {
-    uint8_t record[96], active[4 * MOST_PAIRS], configured[4 * MOST_PAIRS],
-        used[4 * MOST_PAIRS], counters[8 * MOST_MCIDS], events[2 * MOST_MCIDS];
+    uint8_t record[96];
+    uint32_t active[MOST_PAIRS], configured[MOST_PAIRS], used[MOST_PAIRS];
+    uint64_t counters[MOST_MCIDS];
+    uint16_t events[MOST_MCIDS];
     size_t record_len, active_len, configured_len, used_len, counters_len, events_len;
 };
 
 struct capacity_buffers {
-    uint8_t record[72], masks[8 * MOST_PAIRS], counters[8 * MOST_MCIDS],
-        events[2 * MOST_MCIDS];
+    uint8_t record[72];
+    uint64_t masks[MOST_PAIRS], counters[MOST_MCIDS];
+    uint16_t events[MOST_MCIDS];
     size_t record_len, masks_len, counters_len, events_len;
 };
 
 #define BANDWIDTH_OF(b)                                                        \
-    (b)->record, (b)->record_len, (b)->active, (b)->active_len,                \
-        (b)->configured, (b)->configured_len, (b)->used, (b)->used_len,        \
-        (b)->counters, (b)->counters_len, (b)->events, (b)->events_len
+    (b)->record, (b)->record_len, (uint8_t *)(b)->active, (b)->active_len,     \
+        (uint8_t *)(b)->configured, (b)->configured_len, (uint8_t *)(b)->used, \
+        (b)->used_len, (uint8_t *)(b)->counters, (b)->counters_len,            \
+        (uint8_t *)(b)->events, (b)->events_len
 #define CAPACITY_OF(c)                                                         \
-    (c)->record, (c)->record_len, (c)->masks, (c)->masks_len, (c)->counters,   \
-        (c)->counters_len, (c)->events, (c)->events_len
+    (c)->record, (c)->record_len, (uint8_t *)(c)->masks, (c)->masks_len,       \
+        (uint8_t *)(c)->counters, (c)->counters_len, (uint8_t *)(c)->events,   \
+        (c)->events_len
+
+/* The slices of a call as a list, to be worked through in a loop. */
+struct slice {
+    uint8_t *at;
+    size_t length;
+};
+#define SLICE(buffers, name) {(uint8_t *)(buffers)->name, (buffers)->name##_len}
+#define BANDWIDTH_LIST(b)                                                      \
+    {                                                                          \
+        SLICE(b, record), SLICE(b, active), SLICE(b, configured),              \
+            SLICE(b, used), SLICE(b, counters), SLICE(b, events)               \
+    }
+#define CAPACITY_LIST(c)                                                       \
+    {SLICE(c, record), SLICE(c, masks), SLICE(c, counters), SLICE(c, events)}
+enum { BANDWIDTH_SLICE_COUNT = 6, CAPACITY_SLICE_COUNT = 4 };
 
 static inline void bandwidth_lengths(struct bandwidth_buffers *b, uint64_t nr,
                                      uint64_t na, uint64_t nm)
@@ -82,18 +104,20 @@ static inline void capacity_lengths(struct capacity_buffers *c, uint64_t nr,
 }
 
 /* Little-endian words of a record or table. */
-static inline uint64_t get_word(const uint8_t *table, uint64_t index, unsigned bytes)
+static inline uint64_t get_word(const void *table, uint64_t index, unsigned bytes)
 {
+    const uint8_t *place = (const uint8_t *)table + index * bytes;
     uint64_t word = 0;
     for (unsigned i = 0; i < bytes; i++)
-        word |= (uint64_t)table[index * bytes + i] << 8 * i;
+        word |= (uint64_t)place[i] << 8 * i;
     return word;
 }
 
-static inline void put_word(uint8_t *table, uint64_t index, unsigned bytes, uint64_t word)
+static inline void put_word(void *table, uint64_t index, unsigned bytes, uint64_t word)
 {
+    uint8_t *place = (uint8_t *)table + index * bytes;
     for (unsigned i = 0; i < bytes; i++)
-        table[index * bytes + i] = (uint8_t)(word >> 8 * i);
+        place[i] = (uint8_t)(word >> 8 * i);
 }
 
 /* Random numbers with a fixed course (splitmix64). */

@@ -2,7 +2,8 @@
  * Runs versions of the C interface side by side on the same random states,
  * lawful and damaged ones, and the same random calls: answers and every byte
  * of record and tables must be equal. The first version is plain.c; the others
- * are tuned.c and, compiled with -DWITH_LIBRARY, the library.
+ * are tuned.c and, compiled with -DWITH_LIBRARY, the library by its functions
+ * on bytes and, where all tables have whole words, by those on words.
  *
  *     same [rounds] [seed]
  */
@@ -16,18 +17,17 @@
 #define PREFIX tuned_
 #include "plain.h"
 #undef PREFIX
-#ifdef WITH_LIBRARY
-#include "../include/cbqri.h"
-#endif
+#include "words.h"
 
 static const struct interface versions[] = {
     INTERFACE("plain", plain_),
     INTERFACE("tuned", tuned_),
 #ifdef WITH_LIBRARY
     INTERFACE("library", cbqri_),
+    INTERFACE("library on words", words_),
 #endif
 };
-enum { VERSIONS = sizeof versions / sizeof versions[0] };
+enum { VERSIONS = sizeof versions / sizeof versions[0], WORDS = 3 };
 
 static uint64_t round_number, calls, answers[2][9];
 
@@ -49,6 +49,8 @@ static void compare_bandwidth(struct bandwidth_buffers *b, const struct call *c)
     uint64_t first_out = 1, first_answer = 0;
     for (int v = 0; v < VERSIONS; v++) {
         uint64_t out = 1;
+        if (v == WORDS && !bandwidth_whole_words(b))
+            continue;
         mine = *b;
         uint64_t answer = call_bandwidth(&versions[v], &mine, c, &out);
         if (v == 0) {
@@ -71,6 +73,8 @@ static void compare_capacity(struct capacity_buffers *b, const struct call *c)
     uint64_t first_out = 1, first_answer = 0;
     for (int v = 0; v < VERSIONS; v++) {
         uint64_t out = 1;
+        if (v == WORDS && !capacity_whole_words(b))
+            continue;
         mine = *b;
         uint64_t answer = call_capacity(&versions[v], &mine, c, &out);
         if (v == 0) {

@@ -42,34 +42,38 @@ static uint64_t nr, na, nm, offset, value, out;
 static struct bandwidth_buffers bw;
 static struct capacity_buffers cc;
 
+#define BANDWIDTH_WORDS                                                                   \
+    bw.record, sizeof bw.record, bw.active, nr * na, bw.configured, nr * na, bw.used,     \
+        nr * na, bw.counters, nm, bw.events, nm
+#define CAPACITY_WORDS                                                                    \
+    cc.record, sizeof cc.record, cc.masks, nr * na, cc.counters, nm, cc.events, nm
+
 #define ENTRY(name, ...)                                                                  \
     __attribute__((noinline)) static uint64_t name(void)                                  \
     {                                                                                     \
         STACK_POINTER(stack_at_call);                                                     \
         return cbqri_##name(__VA_ARGS__);                                                 \
     }
-ENTRY(bandwidth_reset, 100, 80, nr, na, nm, 64, 24, BANDWIDTH_OF(&bw))
-ENTRY(bandwidth_read, BANDWIDTH_OF(&bw), 8, offset, &out)
-ENTRY(bandwidth_write, BANDWIDTH_OF(&bw), 8, offset, value)
-ENTRY(bandwidth_request, BANDWIDTH_OF(&bw), 0, 0, 0, 0, 6000, &out)
-ENTRY(bandwidth_end_window, BANDWIDTH_OF(&bw))
-ENTRY(capacity_reset, 40, nr, na, nm, 24, CAPACITY_OF(&cc))
-ENTRY(capacity_read, CAPACITY_OF(&cc), 8, offset, &out)
-ENTRY(capacity_write, CAPACITY_OF(&cc), 8, offset, value)
-ENTRY(capacity_fill, CAPACITY_OF(&cc), 0, 0, 0, 3, &out)
-ENTRY(capacity_evict, CAPACITY_OF(&cc), 0, 0, 0, 3)
+/* The entry points for one kind of tables; their names end in the suffix. */
+#define ENTRIES(suffix, bandwidth, capacity)                                              \
+    ENTRY(bandwidth_reset##suffix, 100, 80, nr, na, nm, 64, 24, bandwidth)                \
+    ENTRY(bandwidth_read##suffix, bandwidth, 8, offset, &out)                             \
+    ENTRY(bandwidth_write##suffix, bandwidth, 8, offset, value)                           \
+    ENTRY(bandwidth_request##suffix, bandwidth, 0, 0, 0, 0, 6000, &out)                   \
+    ENTRY(bandwidth_end_window##suffix, bandwidth)                                        \
+    ENTRY(capacity_reset##suffix, 40, nr, na, nm, 24, capacity)                           \
+    ENTRY(capacity_read##suffix, capacity, 8, offset, &out)                               \
+    ENTRY(capacity_write##suffix, capacity, 8, offset, value)                             \
+    ENTRY(capacity_fill##suffix, capacity, 0, 0, 0, 3, &out)                              \
+    ENTRY(capacity_evict##suffix, capacity, 0, 0, 0, 3)
+ENTRIES(, BANDWIDTH_OF(&bw), CAPACITY_OF(&cc))
+ENTRIES(_words, BANDWIDTH_WORDS, CAPACITY_WORDS)
 
+#define NAMED(name) {"cbqri_" #name, name}, {"cbqri_" #name "_words", name##_words}
 static const struct { const char *name; uint64_t (*call)(void); } entries[] = {
-    {"cbqri_bandwidth_reset", bandwidth_reset},
-    {"cbqri_bandwidth_read", bandwidth_read},
-    {"cbqri_bandwidth_write", bandwidth_write},
-    {"cbqri_bandwidth_request", bandwidth_request},
-    {"cbqri_bandwidth_end_window", bandwidth_end_window},
-    {"cbqri_capacity_reset", capacity_reset},
-    {"cbqri_capacity_read", capacity_read},
-    {"cbqri_capacity_write", capacity_write},
-    {"cbqri_capacity_fill", capacity_fill},
-    {"cbqri_capacity_evict", capacity_evict},
+    NAMED(bandwidth_reset), NAMED(bandwidth_read), NAMED(bandwidth_write),
+    NAMED(bandwidth_request), NAMED(bandwidth_end_window), NAMED(capacity_reset),
+    NAMED(capacity_read), NAMED(capacity_write), NAMED(capacity_fill), NAMED(capacity_evict),
 };
 
 static uint64_t refused;

@@ -1,21 +1,22 @@
 /*
  * Document 01's cases P1 to P12 with their numbers, then random calls on both
- * controllers from a fixed seed. Its output is the same on every machine: a
- * line for each 100 calls has their 100 answers (0, or the refusal's number)
- * and a checksum of all that the calls so far have handed back and left in
- * record and tables. It ends with 1 where a case has another number or some
- * answer never came up.
+ * controllers from a fixed seed, each by the function on bytes and, where all
+ * tables have whole words, by the one on words too. Its output is the same on
+ * every machine: a line for each 100 calls has their 100 answers (0, or the
+ * refusal's number) and a checksum of all that the calls so far have handed
+ * back and left in record and tables. It ends with 1 where a case has another
+ * number, the two functions differ, or some answer never came up.
  */
 #include "../bench/calls.h"
-
-#include <cbqri.h>
+#include "../bench/words.h"
 
 #include <inttypes.h>
 #include <stdio.h>
 
 enum { CALLS = 20000, LINE = 100 };
 
-static const struct interface library = INTERFACE("library", cbqri_);
+static const struct interface library = INTERFACE("bytes", cbqri_);
+static const struct interface on_words = INTERFACE("words", words_);
 static int failed;
 
 /* ---- The cases: one controller worked through ---- */
@@ -105,6 +106,7 @@ struct trace {
     const char *name;
     uint64_t count, checksum;
     uint64_t answers[5][9]; /* how often each call had each answer */
+    uint64_t on_words[9];   /* how often a call on words had it */
     char line[LINE + 1];
 };
 static struct trace bandwidth = {.name = "bandwidth"}, capacity = {.name = "capacity"};
@@ -113,6 +115,12 @@ static void add(struct trace *t, const uint8_t *bytes, size_t length)
 {
     for (size_t i = 0; i < length; i++)
         t->checksum = (t->checksum ^ bytes[i]) * UINT64_C(0x100000001b3);
+}
+
+static void add_all(struct trace *t, const struct slice *list, int count)
+{
+    for (int i = 0; i < count; i++)
+        add(t, list[i].at, list[i].length);
 }
 
 /* One call's answer and the number that it handed back. */
@@ -128,29 +136,54 @@ static void note(struct trace *t, enum kind kind, uint64_t answer, uint64_t out)
         printf("%s %5" PRIu64 " %s %016" PRIx64 "\n", t->name, t->count, t->line, t->checksum);
 }
 
+/* A call on words, and whether it answered and left the same as the one on bytes. */
+static void note_words(struct trace *t, uint64_t answer, int same)
+{
+    if (!same)
+        printf("%s %5" PRIu64 ": DIFFERS on words\n", t->name, t->count);
+    failed |= !same;
+    t->on_words[answer % 9]++;
+}
+
+static int same_bytes(const void *left, const void *right, size_t length)
+{
+    const uint8_t *a = left, *b = right;
+    while (length > 0 && *a == *b)
+        a++, b++, length--;
+    return length == 0;
+}
+
 static void trace_bandwidth(struct bandwidth_buffers *buffers, const struct call *c)
 {
+    static struct bandwidth_buffers copy;
+    const struct slice list[] = BANDWIDTH_LIST(buffers);
+    copy = *buffers;
     uint64_t out = 1, answer = call_bandwidth(&library, buffers, c, &out);
-    add(&bandwidth, buffers->record, buffers->record_len);
-    add(&bandwidth, buffers->active, buffers->active_len);
-    add(&bandwidth, buffers->configured, buffers->configured_len);
-    add(&bandwidth, buffers->used, buffers->used_len);
-    add(&bandwidth, buffers->counters, buffers->counters_len);
-    add(&bandwidth, buffers->events, buffers->events_len);
+    if (bandwidth_whole_words(&copy)) {
+        uint64_t value = 1, again = call_bandwidth(&on_words, &copy, c, &value);
+        note_words(&bandwidth, again, again == answer && value == out &&
+                                          same_bytes(&copy, buffers, sizeof copy));
+    }
+    add_all(&bandwidth, list, BANDWIDTH_SLICE_COUNT);
     note(&bandwidth, c->kind, answer, out);
 }
 
 static void trace_capacity(struct capacity_buffers *buffers, const struct call *c)
 {
+    static struct capacity_buffers copy;
+    const struct slice list[] = CAPACITY_LIST(buffers);
+    copy = *buffers;
     uint64_t out = 1, answer = call_capacity(&library, buffers, c, &out);
-    add(&capacity, buffers->record, buffers->record_len);
-    add(&capacity, buffers->masks, buffers->masks_len);
-    add(&capacity, buffers->counters, buffers->counters_len);
-    add(&capacity, buffers->events, buffers->events_len);
+    if (capacity_whole_words(&copy)) {
+        uint64_t value = 1, again = call_capacity(&on_words, &copy, c, &value);
+        note_words(&capacity, again, again == answer && value == out &&
+                                         same_bytes(&copy, buffers, sizeof copy));
+    }
+    add_all(&capacity, list, CAPACITY_SLICE_COUNT);
     note(&capacity, c->kind, answer, out);
 }
 
-/* The calls by answer; each answer up to the last must have come up. */
+/* The calls by answer; each answer up to the last must have come up, on words too. */
 static void sum_up(const struct trace *t, const char *const names[5], int last)
 {
     uint64_t seen[9] = {0};
@@ -162,8 +195,12 @@ static void sum_up(const struct trace *t, const char *const names[5], int last)
         }
         printf("\n");
     }
-    for (int answer = 0; answer <= last; answer++)
-        failed |= seen[answer] == 0;
+    printf("%s, all on words:", t->name);
+    for (int answer = 0; answer <= last; answer++) {
+        printf(" %" PRIu64, t->on_words[answer]);
+        failed |= seen[answer] == 0 || t->on_words[answer] == 0;
+    }
+    printf("\n");
 }
 
 int main(void)

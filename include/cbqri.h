@@ -47,7 +47,9 @@
  * Rules for the buffers:
  *
  * - A buffer is a pointer and its length in bytes. Words in it are
- *   little-endian on every host; no alignment is asked.
+ *   little-endian on every host; no alignment is asked. The functions on tables
+ *   of words (at the end) take the tables as arrays of numbers instead, and far
+ *   less stack.
  * - Record, tables and the number that a call hands back must not overlap one
  *   another, and no pointer may be NULL.
  * - Calls on buffers that have no byte in common may run at the same time.
@@ -378,6 +380,109 @@ uint64_t cbqri_capacity_evict(uint8_t *record, size_t record_len,
                               uint8_t *counters, size_t counters_len,
                               uint8_t *events, size_t events_len,
                               uint64_t rcid, uint64_t mcid, uint64_t at, uint64_t block);
+
+/* ------------------------------------------------------------------------
+ * Both controllers on tables of words
+ *
+ * Each function above once more, with _words at the end of its name, for
+ * firmware and for callers that hold the tables as numbers. Arguments stand in
+ * the same order; answers, refusals and all that a call changes are the same.
+ * What differs:
+ * - A table is an array of numbers in the host's own byte order, aligned as C
+ *   aligns its type, and its length is a count of words: NR * NA, or NM.
+ *   Refusal 2 is about this count. The record stays little-endian bytes with
+ *   its length in bytes.
+ * - A table that a call never changes is const.
+ * - A call takes at most 1.5 KB of stack on rv64. The functions on bytes take
+ *   29 KB (bandwidth) and 20 KB (capacity), whatever the set-up, because they
+ *   decode the tables there, and take about 1.3 to 3 times as long for it.
+ * Take the functions on bytes where the tables must have the same bytes on
+ * every host or may lie at any address, and the stack is large; otherwise
+ * these. On a little-endian host both may be called in turn on the same tables.
+ *
+ *     static uint8_t record[CBQRI_BANDWIDTH_RECORD_LEN];
+ *     static uint32_t active[NR * NA], configured[NR * NA], used[NR * NA];
+ *     static uint64_t counters[NM];
+ *     static uint16_t events[NM];
+ *     #define BW record, sizeof record, active, NR * NA,                \
+ *             configured, NR * NA, used, NR * NA, counters, NM, events, NM
+ *
+ *     cbqri_bandwidth_reset_words(100, 80, NR, NA, NM, 64, 24, BW);
+ *     cbqri_bandwidth_write_words(BW, 8, CBQRI_BW_ALLOC, cbqri_holder(30, 1));
+ * ------------------------------------------------------------------------ */
+
+uint64_t cbqri_bandwidth_reset_words(uint64_t nbwblks, uint64_t mrbwb, uint64_t nr, uint64_t na,
+                                     uint64_t nm, uint64_t q, uint64_t w,
+                                     uint8_t *record, size_t record_len,
+                                     uint32_t *active, size_t active_words,
+                                     uint32_t *configured, size_t configured_words,
+                                     uint32_t *used, size_t used_words,
+                                     uint64_t *counters, size_t counters_words,
+                                     uint16_t *events, size_t events_words);
+
+uint64_t cbqri_bandwidth_read_words(const uint8_t *record, size_t record_len,
+                                    const uint32_t *active, size_t active_words,
+                                    const uint32_t *configured, size_t configured_words,
+                                    const uint32_t *used, size_t used_words,
+                                    const uint64_t *counters, size_t counters_words,
+                                    const uint16_t *events, size_t events_words,
+                                    uint64_t size, uint64_t offset, uint64_t *value);
+
+uint64_t cbqri_bandwidth_write_words(uint8_t *record, size_t record_len,
+                                     const uint32_t *active, size_t active_words,
+                                     uint32_t *configured, size_t configured_words,
+                                     const uint32_t *used, size_t used_words,
+                                     uint64_t *counters, size_t counters_words,
+                                     uint16_t *events, size_t events_words,
+                                     uint64_t size, uint64_t offset, uint64_t value);
+
+uint64_t cbqri_bandwidth_request_words(uint8_t *record, size_t record_len,
+                                       const uint32_t *active, size_t active_words,
+                                       const uint32_t *configured, size_t configured_words,
+                                       uint32_t *used, size_t used_words,
+                                       uint64_t *counters, size_t counters_words,
+                                       const uint16_t *events, size_t events_words,
+                                       uint64_t rcid, uint64_t mcid, uint64_t at, uint64_t kind,
+                                       uint32_t bytes, uint64_t *granted);
+
+uint64_t cbqri_bandwidth_end_window_words(uint8_t *record, size_t record_len,
+                                          uint32_t *active, size_t active_words,
+                                          const uint32_t *configured, size_t configured_words,
+                                          uint32_t *used, size_t used_words,
+                                          const uint64_t *counters, size_t counters_words,
+                                          const uint16_t *events, size_t events_words);
+
+uint64_t cbqri_capacity_reset_words(uint64_t ncblks, uint64_t nr, uint64_t na, uint64_t nm,
+                                    uint64_t w,
+                                    uint8_t *record, size_t record_len,
+                                    uint64_t *masks, size_t masks_words,
+                                    uint64_t *counters, size_t counters_words,
+                                    uint16_t *events, size_t events_words);
+
+uint64_t cbqri_capacity_read_words(const uint8_t *record, size_t record_len,
+                                   const uint64_t *masks, size_t masks_words,
+                                   const uint64_t *counters, size_t counters_words,
+                                   const uint16_t *events, size_t events_words,
+                                   uint64_t size, uint64_t offset, uint64_t *value);
+
+uint64_t cbqri_capacity_write_words(uint8_t *record, size_t record_len,
+                                    uint64_t *masks, size_t masks_words,
+                                    uint64_t *counters, size_t counters_words,
+                                    uint16_t *events, size_t events_words,
+                                    uint64_t size, uint64_t offset, uint64_t value);
+
+uint64_t cbqri_capacity_fill_words(uint8_t *record, size_t record_len,
+                                   const uint64_t *masks, size_t masks_words,
+                                   uint64_t *counters, size_t counters_words,
+                                   const uint16_t *events, size_t events_words,
+                                   uint64_t rcid, uint64_t mcid, uint64_t at, uint64_t block,
+                                   uint64_t *allowed);
+
+uint64_t cbqri_capacity_evict_words(uint8_t *record, size_t record_len,
+                                    const uint64_t *masks, size_t masks_words,
+                                    uint64_t *counters, size_t counters_words,
+                                    const uint16_t *events, size_t events_words,
+                                    uint64_t rcid, uint64_t mcid, uint64_t at, uint64_t block);
 
 #ifdef __cplusplus
 }

@@ -1,5 +1,5 @@
-//! Cases whose expected numbers were written by hand from the papers. Each is run twice:
-//! on the model, so that the model is tested too, and through the C interface.
+//! Cases whose expected numbers were written by hand from the papers. Each is run on the model, so
+//! that the model is tested too, and through the C interface by its functions on bytes and on words.
 
 mod bandwidth;
 mod capacity;
@@ -14,7 +14,8 @@ mod sweep;
 #[derive(Clone, Copy, Debug, PartialEq, Eq)]
 pub enum Side {
     Model,
-    Library,
+    Bytes,
+    Words,
 }
 
 /// How many unmet expectations are printed on each side.
@@ -25,11 +26,13 @@ pub struct Report {
     side: Side,
     expectations: u64,
     failed: u64,
+    /// Calls on bytes where a table was no whole number of words.
+    skipped: u64,
 }
 
 impl Report {
     fn new(side: Side) -> Report {
-        Report { side, expectations: 0, failed: 0 }
+        Report { side, expectations: 0, failed: 0, skipped: 0 }
     }
 
     fn expect(&mut self, name: &str, got: u64, expected: u64) {
@@ -38,7 +41,7 @@ impl Report {
             self.failed += 1;
         }
         if got != expected && self.failed <= PRINTED {
-            println!("FAILED on the {:?}: {name}: {got:#x}, expected {expected:#x}", self.side);
+            println!("FAILED on {:?}: {name}: {got:#x}, expected {expected:#x}", self.side);
         }
     }
 }
@@ -56,12 +59,15 @@ fn all(side: Side) -> Report {
     report
 }
 
-/// Runs every case on the model and on the library.
+/// Runs every case on each side.
 pub fn run() -> bool {
-    let reports = [all(Side::Model), all(Side::Library)];
+    let reports = [Side::Model, Side::Bytes, Side::Words].map(all);
     for report in &reports {
-        let Report { side, expectations, failed } = report;
-        println!("cases on the {side:?}: {expectations} expectations, {failed} not met");
+        let Report { side, expectations, failed, skipped } = report;
+        println!("cases on {side:?}: {expectations} expectations, {failed} not met");
+        if *skipped > 0 {
+            println!("  {skipped} calls on bytes: a table was no whole number of words");
+        }
     }
     reports.iter().all(|report| report.failed == 0)
 }

@@ -1,7 +1,7 @@
-//! One list of calls, each made on the model and through the C interface, and compared.
+//! One list of calls, each made on the model and through the C interface, on bytes and on words, and compared.
 
 use crate::controller::Controller;
-use crate::coverage::Coverage;
+use crate::coverage::{on, Coverage, KINDS};
 use crate::generator::{Change, Step};
 use crate::memory::Memory;
 use crate::model::Answer;
@@ -69,16 +69,20 @@ impl<C: Controller> Session<C> {
     fn call(&mut self, call: &C::Call, coverage: &mut Coverage) -> Result<Answer, String> {
         let before = self.state.clone();
         let contents = self.memory.contents();
+        let mut words = self.memory.as_words(C::REGIONS);
         let expected = C::on_model(&mut self.state, &self.memory.lengths(), call);
-        let got = C::on_library(&mut self.memory, call);
-        compare_answers(expected, got)?;
         let contents = if expected.refusal == 0 { C::bytes(&self.state) } else { contents };
-        compare_memory::<C>(&contents, &self.memory)?;
-        C::follow(&mut self.ledger, call, got, &self.state)?;
+        let labels = C::labels(&before, call, expected, &self.state);
+        for memory in std::iter::once(&mut self.memory).chain(&mut words) {
+            compare::<C>(memory, call, expected, &contents)
+                .map_err(|text| format!("on {}: {text}", kind(memory)))?;
+            coverage.note(on(kind(memory), &labels));
+        }
+        C::follow(&mut self.ledger, call, expected, &self.state)?;
         coverage.calls += 1;
+        coverage.skipped += words.is_none() as u64;
         coverage.claimed += self.ledger.is_some() as u64;
-        coverage.note(C::labels(&before, call, got, &self.state));
-        Ok(got)
+        Ok(expected)
     }
 
     /// Lends one slice with another length for this call; if it is refused, the memory stays.
@@ -120,11 +124,22 @@ impl<C: Controller> Session<C> {
     }
 }
 
-fn compare_answers(expected: Answer, got: Answer) -> Result<(), String> {
-    if expected == got {
-        return Ok(());
+fn kind(memory: &Memory) -> &'static str {
+    KINDS[memory.is_words() as usize]
+}
+
+/// Makes the call through the C interface; what it answers and leaves must be what is expected.
+fn compare<C: Controller>(
+    memory: &mut Memory,
+    call: &C::Call,
+    expected: Answer,
+    contents: &[Vec<u8>],
+) -> Result<(), String> {
+    let got = C::on_library(memory, call);
+    if expected != got {
+        return Err(format!("the model answers {expected:x?}, the library {got:x?}"));
     }
-    Err(format!("the model answers {expected:x?}, the library {got:x?}"))
+    compare_memory::<C>(contents, memory)
 }
 
 /// Every byte of the record and of every table, and the bytes around them.

@@ -19,22 +19,44 @@ pub type CapacityCase<'a> = Case<'a, Capacity>;
 /// What lent memory holds before the first reset.
 const OLD_BYTE: u8 = 0xA5;
 
+/// How far from a whole word's address it begins.
+const SKEW: usize = 1;
+
 impl<'a, C: Controller> Case<'a, C> {
     /// A case on memory of these lengths.
     pub fn new(report: &'a mut Report, lengths: &[usize]) -> Case<'a, C> {
         let contents: Vec<Vec<u8>> = lengths.iter().map(|&n| vec![OLD_BYTE; n]).collect();
-        Case { report, memory: Memory::new(&contents, 1), marker: std::marker::PhantomData }
+        Case { report, memory: Memory::new(&contents, SKEW), marker: std::marker::PhantomData }
     }
 
     pub fn call(&mut self, call: &C::Call) -> Answer {
-        if self.report.side == Side::Library {
-            return C::on_library(&mut self.memory, call);
+        match self.report.side {
+            Side::Model => self.on_model(call),
+            Side::Bytes => C::on_library(&mut self.memory, call),
+            Side::Words => self.on_words(call),
         }
+    }
+
+    fn on_model(&mut self, call: &C::Call) -> Answer {
         let mut state = C::state(&self.memory.contents());
         let answer = C::on_model(&mut state, &self.memory.lengths(), call);
         if answer.refusal == 0 {
-            self.memory = Memory::new(&C::bytes(&state), 1);
+            self.memory = Memory::new(&C::bytes(&state), SKEW);
         }
+        answer
+    }
+
+    fn on_words(&mut self, call: &C::Call) -> Answer {
+        let mut words = match self.memory.as_words(C::REGIONS) {
+            Some(words) => words,
+            None => {
+                self.report.skipped += 1;
+                return C::on_library(&mut self.memory, call);
+            }
+        };
+        let answer = C::on_library(&mut words, call);
+        self.report.expect("guards of the words", words.guards_are_intact() as u64, 1);
+        self.memory = Memory::new(&words.contents(), SKEW);
         answer
     }
 
