@@ -146,7 +146,7 @@ fn look(active: &[u32], configured: &[u32], nr: usize, na: u32) -> Both
 }
 
 // Whether nothing is wrong in a table, and it reserves no more blocks than it may.
-fn lawful(found: Found, most: u64) -> bool
+fn table_ok(found: Found, most: u64) -> bool
     ensures { λ r. ⌜ r ≡ (eqb (found .form) 0 && eqb (found .rows) 0 && leb (found .blocks) most) ⌝ }
 {
     (found.form == 0) & (found.rows == 0) & (found.blocks as u64 <= most)
@@ -166,7 +166,7 @@ pub fn settings_ok(setup: Setup, active: &[u32], configured: &[u32]) -> Settings
     let seen = look(active, configured, setup.nr as usize, setup.na as u32);
     let a = seen.active;
     let c = seen.configured;
-    let ok = lawful(a, setup.mrbwb) & lawful(c, setup.mrbwb);
+    let ok = table_ok(a, setup.mrbwb) & table_ok(c, setup.mrbwb);
     Settings {
         ok: ok,
         active: a.blocks as u64,

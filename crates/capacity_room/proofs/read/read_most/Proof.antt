@@ -1,15 +1,24 @@
 -- `capacity_room::read::read_most` meets its contract.
 use borrow.Author.Needs.{needs}
-use Rattle.rooms.proofs.Parts.{part-long}
+use Rattle.rooms.proofs.Parts.{within, part-long}
 use Rattle.capacity_room.proofs.Rooms.{fits}
 use Rattle.capacity_room.proofs.read.read_most.Statement.{statement}
 use Rattle.capacity_room.proofs.read.read_most.Tie as tie
 
+array-borrow-prefix-m : tie.Need-array-borrow-prefix-m
+array-borrow-prefix-m c = within (c .before .before .before .before .before .before .before .pre .few-pairs) (c .before .before .most-masks .ensures)
+
 slice-aggregate-read-in : tie.Need-slice-aggregate-read-in
 slice-aggregate-read-in c = part-long _ 2048 _ (c .before .before .before .before .before .before .before .before .pre .few-pairs) (c .before .before .before .most-masks .ensures)
 
+array-borrow-prefix-n : tie.Need-array-borrow-prefix-n
+array-borrow-prefix-n c = within (c .before .before .before .before .before .before .before .before .pre .few-mcids) (c .before .before .most-counters .ensures)
+
 slice-aggregate-read-in-2 : tie.Need-slice-aggregate-read-in-2
 slice-aggregate-read-in-2 c = part-long _ 256 _ (c .before .before .before .before .before .before .before .before .before .pre .few-mcids) (c .before .before .before .most-counters .ensures)
+
+array-borrow-prefix-e : tie.Need-array-borrow-prefix-e
+array-borrow-prefix-e c = within (c .before .before .before .before .before .before .before .before .before .pre .few-mcids) (c .before .before .most-events .ensures)
 
 slice-aggregate-read-in-3 : tie.Need-slice-aggregate-read-in-3
 slice-aggregate-read-in-3 c = part-long _ 256 _ (c .before .before .before .before .before .before .before .before .before .before .pre .few-mcids) (c .before .before .before .most-events .ensures)
@@ -18,4 +27,4 @@ read-in-requires : tie.Need-read-in-requires
 read-in-requires c κs = fits _ 2048 256 _ _ _ (c .before .before .before .before .before .before .before .before .before .before .pre) (c .before .before .before .before .before .most-masks .ensures) (c .before .before .before .before .most-counters .ensures) (c .before .before .before .most-events .ensures)
 
 pub read-most-spec : {M : Type 1} → statement M
-read-most-spec = tie.close (tie.spec (λ c κs. search needs) (λ c κs. search needs) (λ c κs. search needs) (λ c. search needs) slice-aggregate-read-in (λ c. search needs) slice-aggregate-read-in-2 (λ c. search needs) slice-aggregate-read-in-3 read-in-requires (λ c. search needs))
+read-most-spec = tie.close (tie.spec (λ c κs. search needs) (λ c κs. search needs) (λ c κs. search needs) array-borrow-prefix-m slice-aggregate-read-in array-borrow-prefix-n slice-aggregate-read-in-2 array-borrow-prefix-e slice-aggregate-read-in-3 read-in-requires (λ c. search needs))
