@@ -34,10 +34,10 @@ pub printed-cut : (c : Controller) (l : List ℕ) → printedFor c (take 81 l) �
 unfolding printedFor
 printed-cut c l = ap (λ (o : Command). lineOf (turnOf c o .reply)) (cut l)
 
-take-take : (n : ℕ) (x y : List ℕ) → take n (take n x ++ y) ≡ take n (x ++ y)
-take-take n [] y = ap (λ (l : List ℕ). take n (l ++ y)) (take-nil n)
-take-take zero (b ∷ x) y = refl
-take-take (suc n) (b ∷ x) y = ap (λ (l : List ℕ). b ∷ l) (take-take n x y)
+pub take-twice : (n : ℕ) (x y : List ℕ) → take n (take n x ++ y) ≡ take n (x ++ y)
+take-twice n [] y = ap (λ (l : List ℕ). take n (l ++ y)) (take-nil n)
+take-twice zero (b ∷ x) y = refl
+take-twice (suc n) (b ∷ x) y = ap (λ (l : List ℕ). b ∷ l) (take-twice n x y)
 
 -- after the text t, where the bytes h of a line came before it
 abbrev After : List ℕ → Type 0
@@ -51,7 +51,7 @@ by-byte true b t c h w e f =
     rw (e, printed-cut c h, after-cut c h)
     (f (afterLine c h) [] (w ++ printedFor c h)
     ∙ ap (stream (afterLines (afterLine c h) (endedFrom [] t)) (take 81 (restFrom [] t))) (append-assoc w (printedFor c h) (printed (afterLine c h) (endedFrom [] t))))
-by-byte false b t c h w e f = rw (e, take-take 81 h (b ∷ [])) (f c (h ++ (b ∷ [])) w)
+by-byte false b t c h w e f = rw (e, take-twice 81 h (b ∷ [])) (f c (h ++ (b ∷ [])) w)
 
 after-text : (t : List ℕ) → After t
 unfolding feedOf endedFrom restFrom printed afterLines

@@ -2,9 +2,9 @@
 use mathlib.Core.Bool.{cond}
 use mathlib.Core.Path.{_≡_}
 use mathlib.Core.List.{List, [], _∷_, _++_, foldl}
-use Prim.Native.Nat.{ℕ, _≤_}
+use Prim.Native.Nat.{ℕ, suc, _+_, _≤_, _<_}
 use lib.Dec.{eqb}
-use lib.ListN.{length, take}
+use lib.ListN.{length, take, drop, getD}
 use Rattle.print.specs.Print.{Wrote}
 use Rattle.session.specs.Session.{Controller, none}
 use Rattle.session.specs.View.{controllerOf}
@@ -44,6 +44,32 @@ lastPrinted c (b ∷ l) = printedFor c (b ∷ l)
 pub record Held (len r : ℕ) : Type 0 where
   pub most : r ≤ 81
   pub same : (l : List ℕ) → length l ≡ 81 → take r l ≡ take len l
+
+-- how many bytes stand before the first newline
+unfoldable pub lineSpan : List ℕ → ℕ
+lineSpan [] = 0
+lineSpan (b ∷ bs) = cond (eqb b 10) 0 (suc (lineSpan bs))
+
+-- r is where the line that starts at from ends
+pub record Ends (chunk : List ℕ) (from r : ℕ) : Type 0 where
+  pub is : r ≡ from + lineSpan (drop from chunk)
+  pub most : r ≤ length chunk
+  pub stop : r < length chunk → getD chunk r 0 ≡ 10
+
+-- the first r bytes of new are the ones to keep
+pub record Kept (old keep new : List ℕ) (r : ℕ) : Type 0 where
+  pub is : take r new ≡ keep
+  pub most : r ≤ 81
+  pub long : length new ≡ length old
+
+-- what is held as a line ends with part, and that line: part alone where nothing was held
+abbrev pub joinOf : List ℕ → List ℕ → List ℕ
+joinOf [] part = []
+joinOf (b ∷ h) part = take 81 ((b ∷ h) ++ part)
+
+abbrev pub fullLine : List ℕ → List ℕ → List ℕ
+fullLine [] part = part
+fullLine (b ∷ h) part = b ∷ h
 
 -- the state before an input: no controller, whatever the tables hold, and no byte
 abbrev pub Started : State → Type 0

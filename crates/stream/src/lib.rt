@@ -1,10 +1,12 @@
 // Lines answered as they come in, however the input is cut into chunks.
 use bandwidth::Record;
 use setup::Setup;
+ghost use mathlib.Core.Path.{_≡_};
+ghost use mathlib.Core.List.{_++_};
 ghost use Prim.Native.Nat.{_+_, _*_, _≤_};
 ghost use lib.ListN.{length, take};
 ghost use Rattle.session.specs.View.{controllerOf, Room};
-ghost use Rattle.stream.specs.Stream.{Held, Started, Answered, Fed, Finished};
+ghost use Rattle.stream.specs.Stream.{Held, Ends, Kept, joinOf, fullLine, Started, Answered, Fed, Finished};
 ghost use Rattle.stream.specs.Claim.{Claim};
 
 // The record after a line, and where its answer ends.
@@ -57,6 +59,54 @@ fn held(len: usize) -> usize
     if len < 81 { len } else { 81 }
 }
 
+// Where the line at `from` ends: at the next newline or the chunk's end.
+fn line_end(chunk: &[u8], from: usize) -> usize
+    requires { ⌜ from ≤ length (now chunk) ⌝ }
+    ensures { λ r. ⌜ Ends (now (chunk .entry)) from r ⌝ }
+{
+    let mut i = from;
+    while i < chunk.len() {
+        if chunk[i] == b'\n' {
+            return i;
+        }
+        i += 1;
+    }
+    i
+}
+
+// Puts `part` behind the `start` bytes held of a line, as far as 81 bytes go.
+fn hold(line: &mut [u8; 81], start: usize, part: &[u8]) -> usize
+    requires { ⌜ (start ≤ 81) × (length (now line) ≡ 81) ⌝ }
+    ensures { λ r. ⌜ Kept (now (line .entry)) (take 81 (take start (now (line .entry)) ++ now (part .entry))) (now (line .exit)) r ⌝ }
+{
+    let mut n = start;
+    let mut i = 0;
+    while i < part.len() {
+        let b = part[i];
+        i += 1;
+        if n < 81 {
+            line[n] = b;
+            n += 1;
+        }
+    }
+    n
+}
+
+// The same where bytes are held; where none are, `part` is the line.
+fn join(line: &mut [u8; 81], n: usize, part: &[u8]) -> usize
+    requires { ⌜ (n ≤ 81) × (length (now line) ≡ 81) ⌝ }
+    ensures { λ r. ⌜ Kept (now (line .entry)) (joinOf (take n (now (line .entry))) (now (part .entry))) (now (line .exit)) r ⌝ }
+{
+    if n > 0 { hold(line, n, part) } else { 0 }
+}
+
+// The line that ends with `part`.
+fn full_line<'a>(held: &'a [u8], part: &'a [u8]) -> &'a [u8]
+    ensures { λ r. ⌜ now r ≡ fullLine (now (held .entry)) (now (part .entry)) ⌝ }
+{
+    if held.len() == 0 { part } else { held }
+}
+
 // Before the input.
 pub fn start() -> State
     ensures { λ r. ⌜ Started r ⌝ }
@@ -104,30 +154,29 @@ pub fn feed(
     let mut line = state.line;
     let mut n = held(state.len);
     let mut end = 0;
-    let mut i = 0;
+    let mut from = 0;
+    let mut i = line_end(chunk, 0);
     while i < chunk.len() {
-        let b = chunk[i];
-        i += 1;
-        if b == b'\n' {
-            let r = answer(
-                record,
-                active,
-                configured,
-                used,
-                counters,
-                events,
-                &line[..n],
-                out,
-                end,
-            );
-            record = r.record;
-            end = r.end;
-            n = 0;
-        } else if n < 81 {
-            line[n] = b;
-            n += 1;
-        }
+        let part = &chunk[from..i];
+        n = join(&mut line, n, part);
+        let r = answer(
+            record,
+            active,
+            configured,
+            used,
+            counters,
+            events,
+            full_line(&line[..n], part),
+            out,
+            end,
+        );
+        record = r.record;
+        end = r.end;
+        n = 0;
+        from = i + 1;
+        i = line_end(chunk, from);
     }
+    n = hold(&mut line, n, &chunk[from..]);
     Progress {
         state: State {
             record,
@@ -151,24 +200,21 @@ pub fn finish(
     requires { ⌜ Room (now active) (now configured) (now used) (now counters) (now events) × (24 ≤ length (now out)) ⌝ }
     ensures { λ r. ⌜ Finished (controllerOf (state .«record») (now (active .entry)) (now (configured .entry)) (now (used .entry)) (now (counters .entry)) (now (events .entry))) (take (state .len) (state .line)) (now (out .exit)) r ⌝ }
 {
-    let n = held(state.len);
+    let n = state.len;
     if n == 0 {
         return 0;
     }
-    let record = state.record;
-    let line = state.line;
-    let r = answer(
-        record,
+    let last = feed(
+        state,
         active,
         configured,
         used,
         counters,
         events,
-        &line[..n],
+        b"\n",
         out,
-        0,
     );
-    r.end
+    last.used
 }
 
 // The claim on whole inputs.
