@@ -1,5 +1,3 @@
-// The controllers for C: on little-endian bytes, and on tables of words.
+// The controllers for C, on numbers and little-endian bytes.
 mod bandwidth_on_bytes;
-mod bandwidth_on_words;
 mod capacity_on_bytes;
-mod capacity_on_words;
