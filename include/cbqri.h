@@ -393,9 +393,9 @@ uint64_t cbqri_capacity_evict(uint8_t *record, size_t record_len,
  *   Refusal 2 is about this count. The record stays little-endian bytes with
  *   its length in bytes.
  * - A table that a call never changes is const.
- * - A call takes at most 1.5 KB of stack on rv64. The functions on bytes take
- *   29 KB (bandwidth) and 20 KB (capacity), whatever the set-up, because they
- *   decode the tables there, and take about 1.3 to 3 times as long for it.
+ * - A call takes about 1 KB of stack on rv64. The functions on bytes take 28 KB
+ *   (bandwidth) and 20 KB (capacity), whatever the set-up, because they decode
+ *   the tables there, and take about 1.2 to 2 times as long for it.
  * Take the functions on bytes where the tables must have the same bytes on
  * every host or may lie at any address, and the stack is large; otherwise
  * these. On a little-endian host both may be called in turn on the same tables.
