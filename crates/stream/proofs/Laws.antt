@@ -2,7 +2,7 @@
 use mathlib.Core.Path.{_≡_, refl, sym, ap, _∙_}
 use mathlib.Core.Bool.{Bool, true, false}
 use mathlib.Core.List.{List, [], _∷_, _++_, append-nil, append-assoc}
-use Prim.Native.Nat.{ℕ, suc, _+_, _-_, _*_, _≤_, _<_}
+use Prim.Native.Nat.{ℕ, zero, suc, _+_, _-_, _*_, _≤_, _<_}
 use native.Mathlib.Numerals.{add-one}
 use native.Mathlib.Omega.{arith}
 use borrow.Author.Tests.{eq-eqb, ne-eqb}
@@ -177,11 +177,13 @@ pub finished-none : {c : Controller} {held out : List ℕ} → length held ≡ 0
 finished-none {held = []} e = finished-by refl (omega arith)
 finished-none {held = b ∷ l} e = absurd (omega arith)
 
-last-line : {c c′ : Controller} {held old new : List ℕ} {r : ℕ} → (length held ≡ 0 → ⊥) → Answered c held old 0 c′ new r → r ≤ length new → Finished c held new r
-last-line {held = []} h a l = absurd (h refl)
-last-line {held = b ∷ held} h a l = finished-by (a .wrote .is) l
+-- a line is left, and a newline ends it
+pub finished-line : {c c′ : Controller} {held held′ out : List ℕ} {r : ℕ} → (length held ≡ 0 → ⊥) → Fed c held (10 ∷ []) c′ held′ out r → Finished c held out r
+unfolding feedOf byte
+finished-line {held = []} h f = absurd (h refl)
+finished-line {held = b ∷ held} h f = finished-by (ap (λ (s : Stream). s .written) (f .is)) (f .used)
 
--- a line is left
-pub finished-line : {c c′ : Controller} {line held old new : List ℕ} {r : ℕ} → line ≡ held → (length line ≡ 0 → ⊥) → Answered c line old 0 c′ new r → r ≤ length new
-    → Finished c held new r
-finished-line e h a l = rw (← e) (last-line h a l)
+pub some-held : (n : ℕ) (line : List ℕ) → length line ≡ 81 → (n ≡ 0 → ⊥) → length (take n line) ≡ 0 → ⊥
+some-held zero line long h e = h refl
+some-held (suc n) [] long h e = omega arith
+some-held (suc n) (b ∷ line) long h e = omega arith

@@ -200,24 +200,21 @@ pub fn finish(
     requires { ⌜ Room (now active) (now configured) (now used) (now counters) (now events) × (24 ≤ length (now out)) ⌝ }
     ensures { λ r. ⌜ Finished (controllerOf (state .«record») (now (active .entry)) (now (configured .entry)) (now (used .entry)) (now (counters .entry)) (now (events .entry))) (take (state .len) (state .line)) (now (out .exit)) r ⌝ }
 {
-    let n = held(state.len);
+    let n = state.len;
     if n == 0 {
         return 0;
     }
-    let record = state.record;
-    let line = state.line;
-    let r = answer(
-        record,
+    let last = feed(
+        state,
         active,
         configured,
         used,
         counters,
         events,
-        &line[..n],
+        b"\n",
         out,
-        0,
     );
-    r.end
+    last.used
 }
 
 // The claim on whole inputs.
