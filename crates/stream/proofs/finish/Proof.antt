@@ -1,5 +1,6 @@
 -- `stream::finish` meets its contract.
 use mathlib.Core.Path.{_≡_, refl}
+use native.Mathlib.Omega.{arith}
 use lib.ListN.{length}
 use Rattle.stream.proofs.Laws.{finished-none, finished-line, some-held}
 use borrow.Author.Needs.{needs}
@@ -7,7 +8,9 @@ use Rattle.stream.proofs.finish.Statement.{statement}
 use Rattle.stream.proofs.finish.Tie as tie
 
 returns : tie.Need-returns
-returns c = finished-none (rw (c .if1 .taken) refl)
+returns c =
+    let none : c .before .before .before .before .before .before .before .args .state .len ≡ 0 = omega arith in
+    finished-none (rw none refl)
 
 returns-2 : tie.Need-returns-2
 returns-2 c =
