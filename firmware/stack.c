@@ -34,7 +34,7 @@ static uint64_t used_stack(void)
     return (uint64_t)((const char *)stack_at_call - (const char *)word);
 }
 
-/* ---- The calls: each entry point, on set-ups of either size of room ---- */
+/* ---- The calls: each entry point, on a set-up of middle size and on the largest ---- */
 
 enum { FEW, MOST };
 static const struct { uint64_t nr, na, nm; } sizes[] = {{16, 8, 64}, {256, 8, 256}};
