@@ -100,9 +100,8 @@ reset-on l a c u n e su r f p =
 -- ---- a read keeps the record
 
 read-keeps : (s : State) (size offset : ℕ) → step s (read size offset) .state ≡ s
-unfolding runs.step perform
-read-keeps s size offset =
-    cases (λ b. cond b (perform s (read size offset)) (runs.refuse refused s (refusal s (read size offset))) .state ≡ s) (eqb (refusal s (read size offset)) 0) (λ _. refl) (λ _. refl)
+unfolding perform
+read-keeps s size offset = laws.leaves refusal perform refused s (read size offset) refl
 
 pub record-kept : (bytes : List ℕ) (held after : Record) (a c u n e : List ℕ) (given : Answer) (size offset : ℕ) → length bytes ≡ 96 → ((i : ℕ) → getD bytes i 0 < 256)
     → wordsIn held ≡ wordsOf 8 12 bytes → outcome given (state after a c u n e) ≡ step (state held a c u n e) (read size offset) → bytes ≡ bytesOfAll 8 (wordsIn after)

@@ -81,9 +81,8 @@ module _ (l : Lent) (held : Record) (m n e : List ℕ) (h : wordsIn held ≡ wor
 -- ---- a read keeps the record
 
 read-keeps : (s : State) (size offset : ℕ) → step s (read size offset) .state ≡ s
-unfolding runs.step perform
-read-keeps s size offset =
-    cases (λ b. cond b (perform s (read size offset)) (runs.refuse refused s (refusal s (read size offset))) .state ≡ s) (eqb (refusal s (read size offset)) 0) (λ _. refl) (λ _. refl)
+unfolding perform
+read-keeps s size offset = laws.leaves refusal perform refused s (read size offset) refl
 
 pub record-kept : (bytes : List ℕ) (held after : Record) (m n e : List ℕ) (given : Answer) (size offset : ℕ) → length bytes ≡ 72 → ((i : ℕ) → getD bytes i 0 < 256)
     → wordsIn held ≡ wordsOf 8 9 bytes → outcome given (state after m n e) ≡ step (state held m n e) (read size offset) → bytes ≡ bytesOfAll 8 (wordsIn after)

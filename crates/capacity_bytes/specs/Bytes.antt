@@ -86,4 +86,4 @@ stepOn l s c = shared.stepOn step replyTo l s c
 
 -- one call on bytes
 abbrev pub stepBytes : Lent → Call → Reply
-stepBytes l c = shared.stepBytes step replyTo (λ k d. byteRefusal (setupFor k d) k) stateOf l c
+stepBytes l c = shared.stepLent step replyTo (λ k d. byteRefusal (setupFor k d) k) stateOf l c
