@@ -1,5 +1,5 @@
 -- Checks 1 and 2 on bytes, both ways.
-use mathlib.Core.Path.{_≡_, refl}
+use mathlib.Core.Path.{_≡_, refl, sym, _∙_}
 use mathlib.Core.Bool.{true, false, cond}
 use Prim.Native.Nat.{ℕ, _*_, _/_, _≤_}
 use native.Mathlib.Nat.{mul-le-mul}
@@ -10,6 +10,7 @@ use lib.ListN.{length}
 use Rattle.tables.proofs.Tests.{and-l, and-r}
 use Rattle.replies.proofs.Laws.{by-lengths, passed}
 use Rattle.bandwidth_model.specs.Rules.{Setup, setupOk, pairs}
+use Rattle.bandwidth_model.specs.Facts.{Ranges}
 use Rattle.bandwidth_model.proofs.Setup.{ranges}
 use Rattle.bandwidth_bytes.specs.Bytes.{Lent, recordLength, bytesFit, byteRefusal}
 use Rattle.bandwidth_bytes.specs.View.{Sized}
@@ -66,3 +67,14 @@ most-sized su l z =
     let r = ranges su (q .1 .0) in
     let p = mul-le-mul (r .nr-high) (r .na-high) in
     sized su l 2048 256 z (omega arith) (omega arith)
+
+-- and the set-up is in range
+pub in-range : (su : Setup) (l : Lent) → byteRefusal su l ≡ 0 → Ranges su
+unfolding byteRefusal
+in-range su l z = ranges su (passed (eqb (length (l .«record»)) recordLength) (setupOk su) (bytesFit su l) z .1 .0)
+
+-- and both settings tables have one length
+pub same-length : (su : Setup) (l : Lent) → byteRefusal su l ≡ 0 → length (l .active) ≡ length (l .configured)
+same-length su l z =
+    let s = most-sized su l z in
+    sym (s .active-long) ∙ s .configured-long

@@ -1,5 +1,7 @@
-// The bandwidth controller on a record and tables of little-endian bytes.
+// The bandwidth controller's record and tables as bytes, and calls on them with room for the tables' words.
+pub mod call;
 pub mod lent;
+pub mod perform;
 pub mod read;
 pub mod record;
 pub mod request;

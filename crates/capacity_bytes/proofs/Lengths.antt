@@ -10,6 +10,7 @@ use lib.ListN.{length}
 use Rattle.tables.proofs.Tests.{and-l, and-r}
 use Rattle.replies.proofs.Laws.{by-lengths, passed}
 use Rattle.capacity_model.specs.Rules.{Setup, setupOk, pairs}
+use Rattle.capacity_model.specs.Facts.{Ranges}
 use Rattle.capacity_model.proofs.Setup.{ranges}
 use Rattle.capacity_bytes.specs.Bytes.{Lent, recordLength, bytesFit, byteRefusal}
 use Rattle.capacity_bytes.specs.View.{Sized}
@@ -62,3 +63,8 @@ most-sized su l z =
     let r = ranges su (q .1 .0) in
     let p = mul-le-mul (r .nr-high) (r .na-high) in
     sized su l 2048 256 z (omega arith) (omega arith)
+
+-- and the set-up is in range
+pub in-range : (su : Setup) (l : Lent) → byteRefusal su l ≡ 0 → Ranges su
+unfolding byteRefusal
+in-range su l z = ranges su (passed (eqb (length (l .«record»)) recordLength) (setupOk su) (bytesFit su l) z .1 .0)

@@ -1,3 +1,4 @@
 -- The laws that other crates cite.
 pub mod Calls
 pub mod Lengths
+pub mod Changes

@@ -1,92 +1,67 @@
-// Cache events on bytes.
-use crate::lent::decode_tables;
-use crate::record::load_record;
-use crate::record::store_record;
+// Cache events, by the tables' words.
+use crate::call::Changes;
+use crate::call::unchanged;
 use access::Ack;
 use capacity::Filling;
-use replies::Told;
+use capacity::Record;
 use replies::refusal_number;
-use words::encode64;
+use tables::word64;
 ghost use mathlib.Core.Path.{_≡_};
 ghost use Rattle.capacity_model.specs.Calls.{fill, evict};
-ghost use Rattle.replies.specs.Replies.{reply};
-ghost use Rattle.capacity_bytes.specs.Bytes.{lent, stateOf, stepOn};
-ghost use Rattle.capacity_bytes.specs.View.{Fits};
+ghost use Rattle.capacity_model.specs.Model.{step};
+ghost use Rattle.capacity.specs.View.{state};
+ghost use Rattle.capacity_bytes.specs.Changes.{outcomeOf};
 
-// With room m, n and e for the tables' words.
-pub fn fill_in(
-    record: &mut [u8],
-    masks: &[u8],
-    counters: &mut [u8],
-    events: &[u8],
-    m: &mut [u64],
+// A cache event that leaves this counter.
+fn counted(allowed: bool, mcid: u64, counter: u64) -> Changes
+    ensures { λ r. ⌜ (r .number ≡ 0) × (r .allowed ≡ allowed) × (r .mcid ≡ mcid) × (r .counter ≡ counter) ⌝ }
+{
+    let mut did = unchanged(0, 0);
+    did.allowed = allowed;
+    did.mcid = mcid as usize;
+    did.counter = counter;
+    did
+}
+
+pub fn fill_on(
+    record: Record,
+    m: &[u64],
     n: &mut [u64],
-    e: &mut [u16],
+    e: &[u16],
     rcid: u64,
     mcid: u64,
     at: u64,
     block: u64,
-) -> Told
-    requires { ⌜ Fits (lent (now «record») (now masks) (now counters) (now events)) (now m) (now n) (now e) ⌝ }
-    ensures { λ r. ⌜ reply (r .number) (r .value) (lent (now («record» .exit)) (now (masks .entry)) (now (counters .exit)) (now (events .entry)))
-        ≡ stepOn (lent (now («record» .entry)) (now (masks .entry)) (now (counters .entry)) (now (events .entry))) (stateOf (lent (now («record» .entry)) (now (masks .entry)) (now (counters .entry)) (now (events .entry)))) (fill rcid mcid at block) ⌝ }
+) -> Changes
+    ensures { λ r. ⌜ outcomeOf (state «record» (now (m .entry)) (now (n .entry)) (now (e .entry))) (fill rcid mcid at block) r
+        ≡ step (state «record» (now (m .entry)) (now (n .entry)) (now (e .entry))) (fill rcid mcid at block) ⌝ }
 {
-    decode_tables(record, masks, counters, events, m, n, e);
-    let filled = load_record(record).fill(m, n, e, rcid, mcid, at, block);
-    let after = filled.record;
+    let filled = record.fill(m, n, e, rcid, mcid, at, block);
     let filling = filled.filling;
     match filling {
-        Filling::Refused(why) => Told {
-            number: refusal_number(why),
-            value: 0,
-        },
-        Filling::Allowed => {
-            store_record(after, record);
-            encode64(n, counters);
-            Told {
-                number: 0,
-                value: 1,
-            }
-        }
-        Filling::NotAllowed => {
-            store_record(after, record);
-            encode64(n, counters);
-            Told {
-                number: 0,
-                value: 0,
-            }
-        }
+        Filling::Refused(why) => unchanged(refusal_number(why), 0),
+        Filling::Allowed => counted(true, mcid, word64(n, mcid as usize)),
+        Filling::NotAllowed => counted(false, mcid, word64(n, mcid as usize)),
     }
 }
 
-// With room m, n and e for the tables' words.
-pub fn evict_in(
-    record: &mut [u8],
-    masks: &[u8],
-    counters: &mut [u8],
-    events: &[u8],
-    m: &mut [u64],
+pub fn evict_on(
+    record: Record,
+    m: &[u64],
     n: &mut [u64],
-    e: &mut [u16],
+    e: &[u16],
     rcid: u64,
     mcid: u64,
     at: u64,
     block: u64,
-) -> u64
-    requires { ⌜ Fits (lent (now «record») (now masks) (now counters) (now events)) (now m) (now n) (now e) ⌝ }
-    ensures { λ r. ⌜ reply r 0 (lent (now («record» .exit)) (now (masks .entry)) (now (counters .exit)) (now (events .entry)))
-        ≡ stepOn (lent (now («record» .entry)) (now (masks .entry)) (now (counters .entry)) (now (events .entry))) (stateOf (lent (now («record» .entry)) (now (masks .entry)) (now (counters .entry)) (now (events .entry)))) (evict rcid mcid at block) ⌝ }
+) -> Changes
+    ensures { λ r. ⌜ outcomeOf (state «record» (now (m .entry)) (now (n .entry)) (now (e .entry))) (evict rcid mcid at block) r
+        ≡ step (state «record» (now (m .entry)) (now (n .entry)) (now (e .entry))) (evict rcid mcid at block) ⌝ }
 {
-    decode_tables(record, masks, counters, events, m, n, e);
-    let acked = load_record(record).evict(m, n, e, rcid, mcid, at, block);
-    let after = acked.record;
+    let acked = record.evict(m, n, e, rcid, mcid, at, block);
     let ack = acked.ack;
     match ack {
-        Ack::Refused(why) => refusal_number(why),
-        Ack::Done => {
-            store_record(after, record);
-            encode64(n, counters);
-            0
-        }
+        Ack::Refused(why) => unchanged(refusal_number(why), 0),
+        Ack::Done => counted(false, mcid, word64(n, mcid as usize)),
     }
 }

@@ -1,6 +1,8 @@
-// The capacity controller on a record and tables of little-endian bytes.
+// The capacity controller's record and tables as bytes, and calls on them with room for the tables' words.
 pub mod blocks;
+pub mod call;
 pub mod lent;
+pub mod perform;
 pub mod read;
 pub mod record;
 pub mod reset;

@@ -1,46 +1,55 @@
-// Writes on bytes.
-use crate::lent::decode_tables;
-use crate::record::load_record;
-use crate::record::store_record;
+// Writes, by the tables' words.
+use crate::call::Changes;
+use crate::call::unchanged;
 use access::Ack;
+use capacity::Record;
+use changes::named_mcid;
+use changes::named_pair;
 use replies::refusal_number;
-use words::encode16;
-use words::encode64;
+use tables::word16;
+use tables::word64;
 ghost use mathlib.Core.Path.{_≡_};
+ghost use Prim.Native.Nat.{_≤_};
 ghost use Rattle.capacity_model.specs.Calls.{write};
-ghost use Rattle.replies.specs.Replies.{reply};
-ghost use Rattle.capacity_bytes.specs.Bytes.{lent, stateOf, stepOn};
-ghost use Rattle.capacity_bytes.specs.View.{Fits};
+ghost use Rattle.capacity_model.specs.Model.{step};
+ghost use Rattle.capacity.specs.View.{state};
+ghost use Rattle.capacity_bytes.specs.Changes.{outcomeOf};
 
-// With room m, n and e for the tables' words.
-pub fn write_in(
-    record: &mut [u8],
-    masks: &mut [u8],
-    counters: &mut [u8],
-    events: &mut [u8],
+pub fn write_on(
+    record: Record,
     m: &mut [u64],
     n: &mut [u64],
     e: &mut [u16],
     size: u64,
     offset: u64,
     value: u64,
-) -> u64
-    requires { ⌜ Fits (lent (now «record») (now masks) (now counters) (now events)) (now m) (now n) (now e) ⌝ }
-    ensures { λ r. ⌜ reply r 0 (lent (now («record» .exit)) (now (masks .exit)) (now (counters .exit)) (now (events .exit)))
-        ≡ stepOn (lent (now («record» .entry)) (now (masks .entry)) (now (counters .entry)) (now (events .entry))) (stateOf (lent (now («record» .entry)) (now (masks .entry)) (now (counters .entry)) (now (events .entry)))) (write size offset value) ⌝ }
+) -> Changes
+    requires { ⌜ «record» .setup .na ≤ 8 ⌝ }
+    ensures { λ r. ⌜ outcomeOf (state «record» (now (m .entry)) (now (n .entry)) (now (e .entry))) (write size offset value) r
+        ≡ step (state «record» (now (m .entry)) (now (n .entry)) (now (e .entry))) (write size offset value) ⌝ }
 {
-    decode_tables(record, masks, counters, events, m, n, e);
-    let acked = load_record(record).write(m, n, e, size, offset, value);
+    let acked = record.write(m, n, e, size, offset, value);
     let after = acked.record;
     let ack = acked.ack;
     match ack {
-        Ack::Refused(why) => refusal_number(why),
+        Ack::Refused(why) => unchanged(refusal_number(why), 0),
         Ack::Done => {
-            store_record(after, record);
-            encode64(m, masks);
-            encode64(n, counters);
-            encode16(e, events);
-            0
+            let place = named_pair(record.setup.na, value);
+            let mcid = named_mcid(value);
+            Changes {
+                number: 0,
+                value: 0,
+                mon_ctl: after.mon_ctl,
+                mon_ctr_val: after.mon_ctr_val,
+                alloc_ctl: after.alloc_ctl,
+                block_mask: after.block_mask,
+                place,
+                word: word64(m, place),
+                mcid,
+                counter: word64(n, mcid),
+                event: word16(e, mcid),
+                allowed: false,
+            }
         }
     }
 }

@@ -1,5 +1,3 @@
 // The capacity controller on lent bytes: each call picks room for the words of the tables by their lengths.
-pub mod blocks;
-pub mod read;
+pub mod perform;
 pub mod reset;
-pub mod write;

@@ -1,9 +1,16 @@
-// The bandwidth controller's functions for C.
-use bandwidth_room::read::read_bytes;
-use bandwidth_room::request::request_bytes;
+// The bandwidth controller's functions for C, on bytes.
+use bandwidth_bytes::call::Ask;
+use bandwidth_bytes::call::Call;
+use bandwidth_room::perform::perform;
 use bandwidth_room::reset::reset_bytes;
-use bandwidth_room::window::end_window_bytes;
-use bandwidth_room::write::write_bytes;
+use changes::Access;
+use changes::Store;
+use changes::put_registers;
+use words::clear8;
+use words::copy8;
+use words::put16;
+use words::put32;
+use words::put64;
 ghost use mathlib.Core.Path.{_≡_};
 ghost use Rattle.bandwidth_model.specs.Calls.{reset, read, write, request, endWindow};
 ghost use Rattle.replies.specs.Replies.{reply};
@@ -60,17 +67,21 @@ pub extern "C" fn cbqri_bandwidth_read(
     ensures { λ r. ⌜ reply r (now (value .exit)) (lent (now («record» .entry)) (now (active .entry)) (now (configured .entry)) (now (used .entry)) (now (counters .entry)) (now (events .entry)))
         ≡ stepBytes (lent (now («record» .entry)) (now (active .entry)) (now (configured .entry)) (now (used .entry)) (now (counters .entry)) (now (events .entry))) (read size offset) ⌝ }
 {
-    read_bytes(
+    *value = 0;
+    let did = perform(
         record,
         active,
         configured,
         used,
         counters,
         events,
-        size,
-        offset,
-        value,
-    )
+        Call::Read(Access { size, offset }),
+    );
+    if did.number != 0 {
+        return did.number;
+    }
+    *value = did.value;
+    0
 }
 
 #[no_mangle]
@@ -88,17 +99,34 @@ pub extern "C" fn cbqri_bandwidth_write(
     ensures { λ r. ⌜ reply r 0 (lent (now («record» .exit)) (now (active .entry)) (now (configured .exit)) (now (used .entry)) (now (counters .exit)) (now (events .exit)))
         ≡ stepBytes (lent (now («record» .entry)) (now (active .entry)) (now (configured .entry)) (now (used .entry)) (now (counters .entry)) (now (events .entry))) (write size offset value) ⌝ }
 {
-    write_bytes(
+    let did = perform(
         record,
         active,
         configured,
         used,
         counters,
         events,
-        size,
-        offset,
-        value,
-    )
+        Call::Write(Store {
+            size,
+            offset,
+            value,
+        }),
+    );
+    if did.number != 0 {
+        return did.number;
+    }
+    put_registers(
+        record,
+        7,
+        did.mon_ctl,
+        did.mon_ctr_val,
+        did.alloc_ctl,
+        did.bw_alloc,
+    );
+    put32(configured, did.place, did.word as u64);
+    put64(counters, did.mcid, did.counter);
+    put16(events, did.mcid, did.event as u64);
+    0
 }
 
 #[no_mangle]
@@ -119,20 +147,30 @@ pub extern "C" fn cbqri_bandwidth_request(
     ensures { λ r. ⌜ reply r (now (granted .exit)) (lent (now («record» .exit)) (now (active .entry)) (now (configured .entry)) (now (used .exit)) (now (counters .exit)) (now (events .entry)))
         ≡ stepBytes (lent (now («record» .entry)) (now (active .entry)) (now (configured .entry)) (now (used .entry)) (now (counters .entry)) (now (events .entry))) (request rcid mcid at kind bytes) ⌝ }
 {
-    request_bytes(
+    *granted = 0;
+    let did = perform(
         record,
         active,
         configured,
         used,
         counters,
         events,
-        rcid,
-        mcid,
-        at,
-        kind,
-        bytes,
-        granted,
-    )
+        Call::Request(Ask {
+            rcid,
+            mcid,
+            at,
+            kind,
+            bytes,
+        }),
+    );
+    if did.number != 0 {
+        return did.number;
+    }
+    put64(record, 11, did.pool);
+    put32(used, did.place, did.word as u64);
+    put64(counters, did.mcid, did.counter);
+    *granted = did.value;
+    0
 }
 
 #[no_mangle]
@@ -147,5 +185,20 @@ pub extern "C" fn cbqri_bandwidth_end_window(
     ensures { λ r. ⌜ reply r 0 (lent (now («record» .exit)) (now (active .exit)) (now (configured .entry)) (now (used .exit)) (now (counters .entry)) (now (events .entry)))
         ≡ stepBytes (lent (now («record» .entry)) (now (active .entry)) (now (configured .entry)) (now (used .entry)) (now (counters .entry)) (now (events .entry))) endWindow ⌝ }
 {
-    end_window_bytes(record, active, configured, used, counters, events)
+    let did = perform(
+        record,
+        active,
+        configured,
+        used,
+        counters,
+        events,
+        Call::EndWindow,
+    );
+    if did.number != 0 {
+        return did.number;
+    }
+    put64(record, 11, 0);
+    copy8(active, configured);
+    clear8(used);
+    0
 }

@@ -1,9 +1,14 @@
-// The capacity controller's functions for C.
-use capacity_room::blocks::evict_bytes;
-use capacity_room::blocks::fill_bytes;
-use capacity_room::read::read_bytes;
+// The capacity controller's functions for C, on bytes.
+use capacity_bytes::call::Block;
+use capacity_bytes::call::Call;
+use capacity_room::perform::perform;
 use capacity_room::reset::reset_bytes;
-use capacity_room::write::write_bytes;
+use changes::Access;
+use changes::Store;
+use changes::put_registers;
+use tables::pick;
+use words::put16;
+use words::put64;
 ghost use mathlib.Core.Path.{_≡_};
 ghost use Rattle.capacity_model.specs.Calls.{reset, read, write, fill, evict};
 ghost use Rattle.replies.specs.Replies.{reply};
@@ -40,7 +45,19 @@ pub extern "C" fn cbqri_capacity_read(
     ensures { λ r. ⌜ reply r (now (value .exit)) (lent (now («record» .entry)) (now (masks .entry)) (now (counters .entry)) (now (events .entry)))
         ≡ stepBytes (lent (now («record» .entry)) (now (masks .entry)) (now (counters .entry)) (now (events .entry))) (read size offset) ⌝ }
 {
-    read_bytes(record, masks, counters, events, size, offset, value)
+    *value = 0;
+    let did = perform(
+        record,
+        masks,
+        counters,
+        events,
+        Call::Read(Access { size, offset }),
+    );
+    if did.number != 0 {
+        return did.number;
+    }
+    *value = did.value;
+    0
 }
 
 #[no_mangle]
@@ -56,7 +73,32 @@ pub extern "C" fn cbqri_capacity_write(
     ensures { λ r. ⌜ reply r 0 (lent (now («record» .exit)) (now (masks .exit)) (now (counters .exit)) (now (events .exit)))
         ≡ stepBytes (lent (now («record» .entry)) (now (masks .entry)) (now (counters .entry)) (now (events .entry))) (write size offset value) ⌝ }
 {
-    write_bytes(record, masks, counters, events, size, offset, value)
+    let did = perform(
+        record,
+        masks,
+        counters,
+        events,
+        Call::Write(Store {
+            size,
+            offset,
+            value,
+        }),
+    );
+    if did.number != 0 {
+        return did.number;
+    }
+    put_registers(
+        record,
+        5,
+        did.mon_ctl,
+        did.mon_ctr_val,
+        did.alloc_ctl,
+        did.block_mask,
+    );
+    put64(masks, did.place, did.word);
+    put64(counters, did.mcid, did.counter);
+    put16(events, did.mcid, did.event as u64);
+    0
 }
 
 #[no_mangle]
@@ -74,17 +116,25 @@ pub extern "C" fn cbqri_capacity_fill(
     ensures { λ r. ⌜ reply r (now (allowed .exit)) (lent (now («record» .exit)) (now (masks .entry)) (now (counters .exit)) (now (events .entry)))
         ≡ stepBytes (lent (now («record» .entry)) (now (masks .entry)) (now (counters .entry)) (now (events .entry))) (fill rcid mcid at block) ⌝ }
 {
-    fill_bytes(
+    *allowed = 0;
+    let did = perform(
         record,
         masks,
         counters,
         events,
-        rcid,
-        mcid,
-        at,
-        block,
-        allowed,
-    )
+        Call::Fill(Block {
+            rcid,
+            mcid,
+            at,
+            block,
+        }),
+    );
+    if did.number != 0 {
+        return did.number;
+    }
+    put64(counters, did.mcid, did.counter);
+    *allowed = pick(did.allowed, 1, 0);
+    0
 }
 
 #[no_mangle]
@@ -101,5 +151,21 @@ pub extern "C" fn cbqri_capacity_evict(
     ensures { λ r. ⌜ reply r 0 (lent (now («record» .exit)) (now (masks .entry)) (now (counters .exit)) (now (events .entry)))
         ≡ stepBytes (lent (now («record» .entry)) (now (masks .entry)) (now (counters .entry)) (now (events .entry))) (evict rcid mcid at block) ⌝ }
 {
-    evict_bytes(record, masks, counters, events, rcid, mcid, at, block)
+    let did = perform(
+        record,
+        masks,
+        counters,
+        events,
+        Call::Evict(Block {
+            rcid,
+            mcid,
+            at,
+            block,
+        }),
+    );
+    if did.number != 0 {
+        return did.number;
+    }
+    put64(counters, did.mcid, did.counter);
+    0
 }

@@ -4,7 +4,7 @@ use mathlib.Core.List.{List, [], _∷_, _++_, append-assoc}
 use Prim.Native.Nat.{ℕ, zero, suc, _*_, _^_, _≤_, _<_}
 use native.Mathlib.Nat.{zero-mul, suc-mul, add-comm}
 use native.Mathlib.Omega.{arith}
-use lib.ListN.{length, take, drop, getD, set, length-append, length-drop, take-append-drop, drop-of-length-le}
+use lib.ListN.{length, take, drop, getD, set, replicate, replicate-append-replicate, length-append, length-drop, take-append-drop, drop-of-length-le}
 use lib.Seq.{length-take-le, drop-drop, take-at, drop-at, set-split, drop-cons}
 use Rattle.words.specs.Words.{wordOf, bytesOf, wordsOf, bytesOfAll, stored, Below}
 use Rattle.words.proofs.Word.{length-bytes, stored-at, word-bytes, bytes-word, word-below}
@@ -53,6 +53,19 @@ pub set-bytes : (k i v : ℕ) (ws : List ℕ) → i < length ws → bytesOfAll k
 unfolding bytesOfAll
 set-bytes k i v ws h =
     rw (set-split ws i v h, all-append, all-split k i ws h, stored-at k (i * k) v _ _ (length-before k i ws h), drop-at _ _ k (length-bytes k (getD ws i 0)), append-assoc)
+
+-- ---- words that are 0
+
+zero-word : (k : ℕ) → bytesOf k 0 ≡ replicate k 0
+unfolding bytesOf
+zero-word zero = refl
+zero-word (suc k) = ap (λ (bs : List ℕ). 0 ∷ bs) (zero-word k)
+
+-- their bytes are 0
+pub zero-bytes : (k n : ℕ) → bytesOfAll k (replicate n 0) ≡ replicate (n * k) 0
+unfolding bytesOfAll
+zero-bytes k zero = rw zero-mul
+zero-bytes k (suc n) = rw (zero-word k, zero-bytes k n, replicate-append-replicate, suc-mul, add-comm k)
 
 -- ---- bounds
 

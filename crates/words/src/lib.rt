@@ -1,8 +1,8 @@
 // Little-endian words of 16, 32 and 64 bits in bytes. Each width is made of two of half the width.
 ghost use mathlib.Core.Path.{_≡_};
 ghost use Prim.Native.Nat.{_+_, _*_, _<_, _≤_, _^_};
-ghost use lib.ListN.{length, take, drop};
-ghost use Rattle.words.specs.Words.{wordOf, wordsOf, bytesOfAll, stored};
+ghost use lib.ListN.{length, take, drop, replicate};
+ghost use Rattle.words.specs.Words.{wordOf, wordsOf, bytesOfAll, stored, withWord};
 
 // The byte at `at`.
 fn load8(b: &[u8], at: usize) -> u64
@@ -124,5 +124,53 @@ pub fn encode64(words: &[u64], bytes: &mut [u8])
 {
     for i in 0..words.len() {
         store64(bytes, i * 8, words[i]);
+    }
+}
+
+// Stores w as word i; a place outside changes nothing.
+pub fn put16(b: &mut [u8], i: usize, w: u64)
+    ensures { λ _. ⌜ now (b .exit) ≡ withWord 2 (now (b .entry)) i w ⌝ }
+{
+    if i < b.len() / 2 {
+        store16(b, i * 2, w);
+    }
+}
+
+pub fn put32(b: &mut [u8], i: usize, w: u64)
+    ensures { λ _. ⌜ now (b .exit) ≡ withWord 4 (now (b .entry)) i w ⌝ }
+{
+    if i < b.len() / 4 {
+        store32(b, i * 4, w);
+    }
+}
+
+pub fn put64(b: &mut [u8], i: usize, w: u64)
+    ensures { λ _. ⌜ now (b .exit) ≡ withWord 8 (now (b .entry)) i w ⌝ }
+{
+    if i < b.len() / 8 {
+        store64(b, i * 8, w);
+    }
+}
+
+// Copies bytes over as many others.
+pub fn copy8(to: &mut [u8], from: &[u8])
+    requires { ⌜ length (now to) ≡ length (now from) ⌝ }
+    ensures { λ _. ⌜ now (to .exit) ≡ now (from .entry) ⌝ }
+{
+    let mut i: usize = 0;
+    while i < to.len() {
+        to[i] = from[i];
+        i += 1;
+    }
+}
+
+// Sets every byte to 0.
+pub fn clear8(b: &mut [u8])
+    ensures { λ _. ⌜ now (b .exit) ≡ replicate (length (now (b .entry))) 0 ⌝ }
+{
+    let mut i: usize = 0;
+    while i < b.len() {
+        b[i] = 0;
+        i += 1;
     }
 }

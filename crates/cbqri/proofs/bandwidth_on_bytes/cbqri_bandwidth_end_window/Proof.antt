@@ -1,0 +1,19 @@
+-- `cbqri::bandwidth_on_bytes::cbqri_bandwidth_end_window` meets its contract.
+use borrow.Author.Needs.{needs}
+use mathlib.Core.Path.{refl}
+use Rattle.changes.proofs.Laws.{reply-done, reply-refused}
+use Rattle.bandwidth_bytes.proofs.Calls.{same-bytes}
+use Rattle.cbqri.proofs.bandwidth_on_bytes.cbqri_bandwidth_end_window.Statement.{statement}
+use Rattle.cbqri.proofs.bandwidth_on_bytes.cbqri_bandwidth_end_window.Tie as tie
+
+returns : tie.Need-returns
+returns c = reply-refused _ _ _ _ _ (c .before .before .perform .ensures .0) (c .if1 .taken)
+
+copy8-requires : tie.Need-copy8-requires
+copy8-requires c κs = c .before .before .before .before .before .before .before .perform .ensures .1 (c .before .before .before .before .before .if1 .left)
+
+returns-2 : tie.Need-returns-2
+returns-2 c = reply-done _ _ _ _ _ (c .before .before .before .before .before .before .before .before .before .before .before .before .before .before .perform .ensures .0) _ _ (c .before .before .before .before .before .before .before .before .before .before .before .before .if1 .left) refl (same-bytes (c .before .before .before .before .before .before .before .before .before .before .put64 .ensures) (c .before .before .before .before .before .before .copy8 .ensures) refl (c .before .before .clear8 .ensures) refl refl)
+
+pub cbqri-bandwidth-end-window-spec : {M : Type 1} → statement M
+cbqri-bandwidth-end-window-spec = tie.close (tie.spec (λ c κs. search needs) (λ c. search needs) (λ c. search needs) (λ c. search needs) returns (λ c κs. search needs) copy8-requires (λ c κs. search needs) (λ c. search needs) (λ c. search needs) (λ c. search needs) returns-2)
