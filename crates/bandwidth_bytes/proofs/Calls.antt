@@ -5,7 +5,7 @@ use mathlib.Core.List.{List}
 use Prim.Native.Nat.{ℕ, _<_}
 use lib.Dec.{T, eqb, lit<}
 use lib.ListN.{length, getD}
-use Rattle.words.specs.Words.{wordsOf, bytesOfAll, withWord, Holds}
+use Rattle.words.specs.Words.{wordsOf, bytesOfAll, Holds}
 use Rattle.words.proofs.Table.{bytes-words, below-all, zero-bytes}
 use Rattle.words.proofs.Held.{length-held, length-table, put-held}
 use Rattle.words.proofs.Held as words

@@ -4,7 +4,7 @@ use mathlib.Core.Bool.{cond}
 use mathlib.Core.List.{List}
 use Prim.Native.Nat.{ℕ, _+_, _<_}
 use lib.Dec.{T, leb, ltb, ltb→lt, nleb→lt}
-use lib.ListN.{length, getD, set, replicate, length-replicate}
+use lib.ListN.{length, getD, replicate, length-replicate}
 use Rattle.tables.proofs.Tests.{cases, nor-l}
 use Rattle.access.specs.Access as access
 use Rattle.access.specs.Pairs.{pair, knownAt}

@@ -1,5 +1,4 @@
 -- What a call on bytes answers and changes, by the code's account of it.
-use mathlib.Core.List.{List}
 use Prim.Native.Nat.{ℕ}
 use lib.ListN.{length, set, replicate}
 use Rattle.words.specs.Words.{withWord}

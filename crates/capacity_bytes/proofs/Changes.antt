@@ -1,6 +1,6 @@
 -- What each call changes, by the model's step.
 use mathlib.Core.Path.{_≡_, refl, sym, ap, subst, _∙_}
-use mathlib.Core.Bool.{Bool, cond}
+use mathlib.Core.Bool.{cond}
 use mathlib.Core.List.{List}
 use Prim.Native.Nat.{ℕ}
 use lib.Dec.{eqb}
@@ -11,7 +11,7 @@ use Rattle.access.specs.Access as access
 use Rattle.access.specs.Pairs.{pair, knownAt}
 use Rattle.runs.proofs.Steps.{step-by}
 use Rattle.allocation.specs.Allocation.{rcidOf, atOf}
-use Rattle.monitor.specs.Monitor.{Monitor, mcidOf, writeMon, counted}
+use Rattle.monitor.specs.Monitor.{mcidOf, writeMon, counted}
 use Rattle.monitor.specs.Occupancy.{lastEvent, countsBlock, filled, evicted}
 use Rattle.replies.proofs.Laws.{leaves}
 use Rattle.changes.proofs.Laws.{by-refusal, by-answer}

@@ -1,7 +1,6 @@
 -- `changes::named_pair` meets its contract.
 use borrow.Author.Needs.{needs}
 use mathlib.Core.Path.{refl}
-use Rattle.access.specs.Pairs.{pair}
 use Rattle.changes.proofs.named_pair.Statement.{statement}
 use Rattle.changes.proofs.named_pair.Tie as tie
 

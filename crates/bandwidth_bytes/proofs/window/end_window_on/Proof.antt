@@ -1,6 +1,6 @@
 -- `bandwidth_bytes::window::end_window_on` meets its contract.
 use borrow.Author.Needs.{needs}
-use mathlib.Core.Path.{refl, ap, _∙_}
+use mathlib.Core.Path.{ap, _∙_}
 use Rattle.bandwidth_model.specs.Calls.{endWindow}
 use Rattle.bandwidth.specs.View.{ackOf}
 use Rattle.bandwidth_bytes.proofs.Changes.{on-refused, end-done}
