@@ -20,12 +20,12 @@ callOf (call.Write x) = model.write (x .size) (x .offset) (x .value)
 callOf (call.Request x) = model.request (x .rcid) (x .mcid) (x .at) (x .kind) (x .bytes)
 callOf call.EndWindow = model.endWindow
 
--- the place of a holder; any other where there is none
+-- the place of a holder; 0 where there is none
 abbrev pub placeOf : Holder → ℕ
 placeOf nobody = 0
 placeOf (held i) = i
 
--- ---- by the state
+-- ---- by the state; resets are not performed this way, and have a case only for the sake of the others
 
 -- the answer of a call that is not refused
 abbrev pub answerOf : model.Call → ℕ → Answer

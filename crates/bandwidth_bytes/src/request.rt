@@ -21,7 +21,7 @@ ghost use Rattle.grants.specs.Grants.{PairIn};
 ghost use Rattle.bandwidth.specs.View.{state};
 ghost use Rattle.bandwidth_bytes.specs.Changes.{placeOf, outcomeOf};
 
-// The place of the holder that a request is led to; any place where there is none.
+// The place of the holder that a request is led to; 0 where there is none.
 fn holder_place(setup: Setup, active: &[u32], rcid: u64, at: u64) -> usize
     requires { ⌜ PairIn (setupOf setup) rcid (knownAt (setup .na) at) ⌝ }
     ensures { λ r. ⌜ r ≡ placeOf (holderOf (setupOf setup) (now (active .entry)) rcid (knownAt (setup .na) at)) ⌝ }

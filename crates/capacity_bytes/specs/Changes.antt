@@ -20,7 +20,7 @@ callOf (call.Write x) = model.write (x .size) (x .offset) (x .value)
 callOf (call.Fill x) = model.fill (x .rcid) (x .mcid) (x .at) (x .block)
 callOf (call.Evict x) = model.evict (x .rcid) (x .mcid) (x .at) (x .block)
 
--- ---- by the state
+-- ---- by the state; resets are not performed this way, and have a case only for the sake of the others
 
 -- the answer of a call that is not refused
 abbrev pub answerOf : model.Call → Changes → Answer

@@ -39,8 +39,7 @@ module _ {L : Type 0} (l : L) (n v : ℕ) (l′ : L) (r : Reply L) (e : replyBy 
   reply-done u l″ z k q = ap (λ (x : ℕ). reply 0 x l″) k ∙ ap (reply 0 v) q ∙ (rw (eq-eqb n 0 z) at e)
 
   pub reply-refused : (n ≡ 0 → ⊥) → reply n 0 l ≡ r
-  unfolding replyBy
-  reply-refused h = rw (ne-eqb n 0 h) at e
+  reply-refused h = sym (reply-none l n n v l′ refl h) ∙ e
 
 module _ {L S C A : Type 0} (step : S → C → Outcome S A) (replyTo : L → A → S → Reply L) (refused : ℕ → A) where
   -- an outcome that is the model's, told to a caller who lent l

@@ -10,13 +10,11 @@ ghost use Rattle.allocation.specs.Allocation.{rcidOf, atOf};
 ghost use Rattle.monitor.specs.Monitor.{mcidOf};
 ghost use Rattle.changes.specs.Changes.{withRegisters};
 
-// What a read names.
 pub struct Access {
     pub size: u64,
     pub offset: u64,
 }
 
-// What a write names.
 pub struct Store {
     pub size: u64,
     pub offset: u64,
