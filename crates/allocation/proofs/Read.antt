@@ -1,0 +1,59 @@
+-- alloc_ctl as it is read after an operation: its fields, and what its OP and STATUS tell of the setting.
+use mathlib.Core.Path.{_≡_, refl, sym, ap, _∙_}
+use mathlib.Core.Bool.{Bool, true, false, cond, _&&_}
+use mathlib.Core.List.{List, [], _∷_}
+use mathlib.Core.Logic.{_↔_}
+use Prim.Native.Nat.{ℕ}
+use lib.Dec.{T, eqb, eqb→eq}
+use lib.ListN.{getD}
+use Rattle.fields.specs.Layout.{unpack}
+use Rattle.fields.specs.Registers.{allocCtl, heldAt}
+use Rattle.fields.proofs.Registers.{allocCtl-fields, held-held}
+use Rattle.tables.proofs.Tests.{and-l, and-r, and-in, eqb-in, or-l}
+use Rattle.access.specs.Pairs.{Setting, setsPair}
+use Rattle.allocation.specs.Allocation.{configLimit, opOf, rcidOf, atOf, statusOf, allocWord, status, done}
+use Rattle.allocation.proofs.Operations.{status-lt}
+
+-- a setting that is made under a condition is of its own pair exactly where that holds
+sets-own : (b : Bool) (q : Setting) → T (setsPair (q .rcid) (q .at) (cond b (q ∷ []) [])) ↔ T b
+unfolding setsPair
+sets-own true q =
+    let r = eqb (q .rcid) (q .rcid) in
+    let a = eqb (q .at) (q .at) in
+    (λ t. tt, λ t. or-l (r && a) false (and-in r a (eqb-in (q .rcid) (q .rcid) refl) (eqb-in (q .at) (q .at) refl)))
+sets-own false q = (λ t. t, λ t. t)
+
+module _ (nr na : ℕ) (bad : Bool) (v x : ℕ) (e : x ≡ allocWord na v (status nr na bad v)) where
+  pub read-fields : unpack allocCtl x ≡ 0 ∷ status nr na bad v ∷ rcidOf v ∷ atOf na v ∷ opOf v ∷ []
+  unfolding allocWord rcidOf atOf opOf
+  read-fields = ap (unpack allocCtl) e ∙ allocCtl-fields na v (status nr na bad v) (status-lt nr na bad v)
+
+  op-is : opOf x ≡ opOf v
+  unfolding opOf
+  op-is = ap (λ (l : List ℕ). getD l 4 0) read-fields
+
+  at-is : atOf na x ≡ atOf na v
+  unfolding atOf
+  at-is = ap (λ (l : List ℕ). heldAt na (getD l 3 0)) read-fields ∙ held-held na _
+
+  rcid-is : rcidOf x ≡ rcidOf v
+  unfolding rcidOf
+  rcid-is = ap (λ (l : List ℕ). getD l 2 0) read-fields
+
+  status-is : statusOf x ≡ status nr na bad v
+  unfolding statusOf
+  status-is = ap (λ (l : List ℕ). getD l 1 0) read-fields
+
+  -- CONFIG_LIMIT made the setting exactly where it is read with STATUS 1
+  pub read-sets : (word : ℕ)
+      → T (setsPair (rcidOf x) (atOf na x) (cond (done nr na bad configLimit v) (record { rcid = rcidOf v; at = atOf na v; word = word } ∷ []) []))
+      ↔ ((opOf x ≡ configLimit) × (statusOf x ≡ 1))
+  unfolding done
+  read-sets word =
+      let op = eqb (opOf v) configLimit in
+      let st = eqb (status nr na bad v) 1 in
+      let own = sets-own (done nr na bad configLimit v) (record { rcid = rcidOf v; at = atOf na v; word = word }) in
+      rw (rcid-is, at-is)
+      (λ t. let d = own .0 t in
+      (op-is ∙ eqb→eq (opOf v) configLimit (and-l op st d), status-is ∙ eqb→eq (status nr na bad v) 1 (and-r op st d)),
+      λ h. own .1 (and-in op st (eqb-in (opOf v) configLimit (sym op-is ∙ h .0)) (eqb-in (status nr na bad v) 1 (sym status-is ∙ h .1))))

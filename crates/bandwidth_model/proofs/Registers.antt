@@ -1,0 +1,163 @@
+-- The registers are the notes' after any list of calls.
+use mathlib.Core.Path.{_≡_, refl, sym, ap, subst⁻¹, _∙_}
+use mathlib.Core.Bool.{Bool, cond}
+use mathlib.Core.List.{List, [], _∷_, _++_}
+use Prim.Native.Nat.{ℕ}
+use lib.Dec.{T, eqb, eqb→eq}
+use Rattle.fields.specs.Layout.{unpack}
+use Rattle.fields.specs.Registers.{monCtl}
+use Rattle.runs.specs.Runs.{_answers_, event, events, noteAfter}
+use Rattle.runs.specs.Settings.{settings}
+use Rattle.runs.proofs.Laws.{kept-after, note-part, state-one}
+use Rattle.runs.proofs.Steps.{step-by, done-step}
+use Rattle.access.specs.Access as access
+use Rattle.tables.proofs.Tests.{cases, cond-yes}
+use Rattle.allocation.specs.Allocation.{allocWord}
+use Rattle.allocation.proofs.Read.{read-fields, read-sets}
+use Rattle.monitor.specs.Monitor.{cleared, monWord, monStatus, writeMon, counted}
+use Rattle.monitor.specs.Bytes.{lastEvent}
+use Rattle.monitor.proofs.Control.{monWord-fields}
+use Rattle.monitor.proofs.Operations.{monStatus-lt}
+use Rattle.bandwidth_model.specs.Rules.{Setup, stored, allocStatus, badLimit}
+use Rattle.bandwidth_model.specs.Calls.{Call, reset, read, write, request, endWindow, refused, done, value}
+use Rattle.bandwidth_model.specs.Model.{State, Outcome, register, readAt, afterReset, afterWindow, writeAlloc, writeBw, withAlloc, withMonitor, writeAt, serve, serveFrom, requested, perform, refusal, step}
+use Rattle.bandwidth_model.specs.Ledger.{Ledger, accepted, note, started}
+use Rattle.bandwidth_model.specs.Runs.{stateAfter, ledgerAfter, answerAfter}
+use Rattle.bandwidth_model.specs.Claim.{settingsBy}
+use Rattle.bandwidth_model.specs.Counters.{Tally, tally, tallyStart}
+use Rattle.bandwidth_model.specs.Registers.{Notes, notesStart, statusBy, monStatusBy, controlAfter, noteRegisters, notesAfter, registersBy, RegisterReads, AllRegisterReads}
+use Rattle.bandwidth_model.proofs.Invariant.{Inv, inv-step}
+use Rattle.bandwidth_model.proofs.Counters.{Counts, counts-step, counts-first}
+use Rattle.bandwidth_model.proofs.Steps.{accepting, value-is}
+use Rattle.bandwidth_model.proofs.Lists.{reset-state, inv-first, inv-after}
+
+-- ---- the control registers after one call
+
+abbrev allocBy : Ledger → ℕ → ℕ
+allocBy l v = allocWord (l .setup .na) v (statusBy l v)
+
+abbrev monBy : Ledger → ℕ → ℕ
+monBy l v = monWord (l .setup .na) v (monStatusBy l v)
+
+module _ (s : State) where
+  write-alloc : (offset v : ℕ)
+      → writeAt s offset v .alloc .ctl ≡ cond (eqb offset 24) (allocWord (s .setup .na) v (allocStatus (s .setup) (s .alloc .configured) (s .alloc .bw) v)) (s .alloc .ctl)
+  unfolding writeAt withAlloc writeAlloc writeBw withMonitor
+  write-alloc offset v =
+      let w = writeAlloc (s .setup) (s .alloc .bw) (s .alloc .configured) v in
+      let b = withAlloc s (writeBw (s .alloc) v) in
+      let m = withMonitor s (writeMon (s .setup .na) (s .setup .nm) lastEvent (s .monitor) v) in
+      cases (λ x. cond x (withAlloc s w) (cond (eqb offset 32) b (cond (eqb offset 8) m s)) .alloc .ctl ≡ cond x (w .ctl) (s .alloc .ctl)) (eqb offset 24)
+      (λ t. refl)
+      (λ t. cases (λ x. cond x b (cond (eqb offset 8) m s) .alloc .ctl ≡ s .alloc .ctl) (eqb offset 32) (λ t. refl)
+      (λ t. cases (λ x. cond x m s .alloc .ctl ≡ s .alloc .ctl) (eqb offset 8) (λ t. refl) (λ t. refl)))
+
+  write-mon : (offset v : ℕ)
+      → writeAt s offset v .monitor .ctl ≡ cond (eqb offset 8) (monWord (s .setup .na) v (monStatus (s .setup .na) (s .setup .nm) lastEvent v)) (s .monitor .ctl)
+  unfolding writeAt withAlloc withMonitor writeMon
+  write-mon offset v =
+      let a = withAlloc s (writeAlloc (s .setup) (s .alloc .bw) (s .alloc .configured) v) in
+      let b = withAlloc s (writeBw (s .alloc) v) in
+      let w = writeMon (s .setup .na) (s .setup .nm) lastEvent (s .monitor) v in
+      let then : ℕ = cond (eqb offset 8) (w .ctl) (s .monitor .ctl) in
+      cases (λ x. cond x a (cond (eqb offset 32) b (cond (eqb offset 8) (withMonitor s w) s)) .monitor .ctl ≡ then) (eqb offset 24)
+      (λ t. rw (eqb→eq offset 24 t) refl)
+      (λ t. cases (λ x. cond x b (cond (eqb offset 8) (withMonitor s w) s) .monitor .ctl ≡ then) (eqb offset 32) (λ t. rw (eqb→eq offset 32 t) refl)
+      (λ t. cases (λ x. cond x (withMonitor s w) s .monitor .ctl ≡ cond x (w .ctl) (s .monitor .ctl)) (eqb offset 8) (λ t. refl) (λ t. refl)))
+
+  perform-alloc : (c : Call)
+      → perform s c .state .alloc .ctl ≡ controlAfter 3 (λ v. allocWord (s .setup .na) v (allocStatus (s .setup) (s .alloc .configured) (s .alloc .bw) v)) (s .alloc .ctl) c
+  unfolding perform controlAfter afterReset afterWindow requested serveFrom serve
+  perform-alloc (reset su) = refl
+  perform-alloc (read size offset) = refl
+  perform-alloc (write size offset v) = write-alloc offset v
+  perform-alloc (request rcid mcid at kind bytes) = refl
+  perform-alloc endWindow = refl
+
+  perform-mon : (c : Call)
+      → perform s c .state .monitor .ctl ≡ controlAfter 1 (λ v. monWord (s .setup .na) v (monStatus (s .setup .na) (s .setup .nm) lastEvent v)) (s .monitor .ctl) c
+  unfolding perform controlAfter afterReset cleared afterWindow requested serveFrom serve counted
+  perform-mon (reset su) = refl
+  perform-mon (read size offset) = refl
+  perform-mon (write size offset v) = write-mon offset v
+  perform-mon (request rcid mcid at kind bytes) = refl
+  perform-mon endWindow = refl
+
+-- ---- after any list
+
+record Noted (s : State) (n : Notes) : Type 0 where
+  inv : Inv s (n .ledger)
+  counts : Counts s (n .tally)
+  alloc : s .alloc .ctl ≡ n .allocCtl
+  mon : s .monitor .ctl ≡ n .monCtl
+
+-- a register that a performed call leaves as the notes have it, and a refused one as it was
+control-step : (s : State) (ctl : State → ℕ) (c : Call) (new old : ℕ) → ctl (perform s c .state) ≡ new → ctl s ≡ old
+    → ctl (step s c .state) ≡ cond (accepted (step s c .answer)) new old
+unfolding accepted
+control-step s ctl c new old p q =
+    step-by refusal perform refused s c (λ o. ctl (o .state) ≡ cond (accepted (o .answer)) new old)
+    (λ e. p ∙ sym (cond-yes (accepted (perform s c .answer)) new old (accepting .performs s c))) (λ t. q)
+
+noted-step : (s : State) (n : Notes) → Noted s n → (c : Call) → Noted (step s c .state) (noteRegisters n (event step s c))
+unfolding noteRegisters
+noted-step s n k c =
+    let i = k .inv in
+    record {
+      inv = inv-step s (n .ledger) i c;
+      counts = counts-step s (n .ledger) (n .tally) i (k .counts) c;
+      alloc = control-step s (λ x. x .alloc .ctl) c (controlAfter 3 (allocBy (n .ledger)) (n .allocCtl) c) (n .allocCtl) (perform-alloc s c ∙ rw (k .alloc, i .same) refl) (k .alloc);
+      mon = control-step s (λ x. x .monitor .ctl) c (controlAfter 1 (monBy (n .ledger)) (n .monCtl) c) (n .monCtl) (perform-mon s c ∙ rw (k .mon, i .same) refl) (k .mon);
+    }
+
+module _ (s : State) (su : Setup) (e : step s (reset su) .answer ≡ done) where
+  noted-first : Noted (step s (reset su) .state) (notesStart su)
+  unfolding notesStart afterReset cleared
+  noted-first = record {
+    inv = inv-first s su e;
+    counts = counts-first s su e;
+    alloc = ap (λ (x : State). x .alloc .ctl) (reset-state s su e);
+    mon = ap (λ (x : State). x .monitor .ctl) (reset-state s su e);
+  }
+
+  noted-after : (cs : List Call) → Noted (stateAfter s su cs) (notesAfter s su cs)
+  noted-after = kept-after step reset s su noteRegisters notesStart Noted noted-step noted-first
+
+  -- an 8-byte read of a control register after a write of it
+  module _ (cs : List Call) (size v x : ℕ) where
+    read-alloc : T (accepted (answerAfter s su cs (write size 24 v))) → answerAfter s su (cs ++ write size 24 v ∷ []) (read 8 24) ≡ value x
+        → x ≡ allocBy (ledgerAfter s su cs) v
+    unfolding readAt register access.part perform writeAt withAlloc writeAlloc
+    read-alloc a r =
+        value-is (stateAfter s su (cs ++ write size 24 v ∷ [])) 8 24 x r ∙ ap (λ (y : State). y .alloc .ctl) (state-one step reset s su cs (write size 24 v))
+        ∙ ap (λ (o : Outcome). o .state .alloc .ctl) (done-step accepting (stateAfter s su cs) (write size 24 v) a) ∙ rw (inv-after s su e cs .same) refl
+
+    read-mon : T (accepted (answerAfter s su cs (write size 8 v))) → answerAfter s su (cs ++ write size 8 v ∷ []) (read 8 8) ≡ value x
+        → x ≡ monBy (ledgerAfter s su cs) v
+    unfolding readAt register access.part perform writeAt withMonitor writeMon
+    read-mon a r =
+        value-is (stateAfter s su (cs ++ write size 8 v ∷ [])) 8 8 x r ∙ ap (λ (y : State). y .monitor .ctl) (state-one step reset s su cs (write size 8 v))
+        ∙ ap (λ (o : Outcome). o .state .monitor .ctl) (done-step accepting (stateAfter s su cs) (write size 8 v) a) ∙ rw (inv-after s su e cs .same) refl
+
+  claim : (cs : List Call) → RegisterReads s su cs
+  unfolding noteAfter started notesStart noteRegisters readAt register settings settingsBy
+  claim cs =
+      let k = noted-after cs in
+      let l = ledgerAfter s su cs in
+      let nr = l .setup .nr in
+      let na = l .setup .na in
+      let bad : ℕ → Bool = badLimit (l .setup) (l .configured) (l .bw) in
+      let es = events step (step s (reset su) .state) cs in
+      record {
+        ledger = note-part (λ n. n .ledger) noteRegisters note (λ n e. refl) es (notesStart su);
+        tally = note-part (λ n. n .tally) noteRegisters tally (λ n e. refl) es (notesStart su);
+        reads = λ size offset v r. value-is (stateAfter s su cs) size offset v r ∙ rw (k .alloc, k .mon, k .inv .same, k .counts .same) refl;
+        alloc = λ size v x a r. read-fields nr na (bad v) v x (read-alloc cs size v x a r);
+        set = λ size v x a r.
+            rw (cond-yes (accepted (answerAfter s su cs (write size 24 v))) (settingsBy l (write size 24 v)) [] a)
+            (read-sets nr na (bad v) v x (read-alloc cs size v x a r) (stored (l .bw)));
+        mon = λ size v x a r. ap (unpack monCtl) (read-mon cs size v x a r) ∙ monWord-fields na v (monStatusBy l v) (monStatus-lt na (l .setup .nm) lastEvent v);
+      }
+
+pub register-reads : AllRegisterReads
+register-reads = record { always = λ s su cs e. claim s su e cs }
