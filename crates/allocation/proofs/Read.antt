@@ -53,7 +53,8 @@ module _ (nr na : ℕ) (bad : Bool) (v x : ℕ) (e : x ≡ allocWord na v (statu
       let op = eqb (opOf v) configLimit in
       let st = eqb (status nr na bad v) 1 in
       let own = sets-own (done nr na bad configLimit v) (record { rcid = rcidOf v; at = atOf na v; word = word }) in
-      rw (rcid-is, at-is)
-      (λ t. let d = own .0 t in
-      (op-is ∙ eqb→eq (opOf v) configLimit (and-l op st d), status-is ∙ eqb→eq (status nr na bad v) 1 (and-r op st d)),
-      λ h. own .1 (and-in op st (eqb-in (opOf v) configLimit (sym op-is ∙ h .0)) (eqb-in (status nr na bad v) 1 (sym status-is ∙ h .1))))
+      rw (rcid-is, at-is) (
+        λ t. let d = own .0 t in
+            (op-is ∙ eqb→eq (opOf v) configLimit (and-l op st d), status-is ∙ eqb→eq (status nr na bad v) 1 (and-r op st d)),
+        λ h. own .1 (and-in op st (eqb-in (opOf v) configLimit (sym op-is ∙ h .0)) (eqb-in (status nr na bad v) 1 (sym status-is ∙ h .1))),
+      )

@@ -1,15 +1,15 @@
 -- The registers are the notes' after any list of calls.
-use mathlib.Core.Path.{_≡_, refl, sym, ap, subst⁻¹, _∙_}
+use mathlib.Core.Path.{_≡_, refl, ap, _∙_}
 use mathlib.Core.Bool.{Bool, cond}
 use mathlib.Core.List.{List, [], _∷_, _++_}
 use Prim.Native.Nat.{ℕ}
 use lib.Dec.{T, eqb, eqb→eq}
 use Rattle.fields.specs.Layout.{unpack}
 use Rattle.fields.specs.Registers.{monCtl}
-use Rattle.runs.specs.Runs.{_answers_, event, events, noteAfter}
+use Rattle.runs.specs.Runs.{event, events, noteAfter}
 use Rattle.runs.specs.Settings.{settings}
-use Rattle.runs.proofs.Laws.{kept-after, note-part, state-one}
-use Rattle.runs.proofs.Steps.{step-by, done-step}
+use Rattle.runs.proofs.Laws.{kept-after, note-part, performed-after}
+use Rattle.runs.proofs.Steps.{part-step}
 use Rattle.access.specs.Access as access
 use Rattle.tables.proofs.Tests.{cases, cond-yes}
 use Rattle.allocation.specs.Allocation.{allocWord}
@@ -19,13 +19,13 @@ use Rattle.monitor.specs.Bytes.{lastEvent}
 use Rattle.monitor.proofs.Control.{monWord-fields}
 use Rattle.monitor.proofs.Operations.{monStatus-lt}
 use Rattle.bandwidth_model.specs.Rules.{Setup, stored, allocStatus, badLimit}
-use Rattle.bandwidth_model.specs.Calls.{Call, reset, read, write, request, endWindow, refused, done, value}
-use Rattle.bandwidth_model.specs.Model.{State, Outcome, register, readAt, afterReset, afterWindow, writeAlloc, writeBw, withAlloc, withMonitor, writeAt, serve, serveFrom, requested, perform, refusal, step}
+use Rattle.bandwidth_model.specs.Calls.{Call, reset, read, write, request, endWindow, done, value}
+use Rattle.bandwidth_model.specs.Model.{State, register, readAt, afterReset, afterWindow, writeAlloc, writeBw, withAlloc, withMonitor, writeAt, serve, serveFrom, requested, perform, step}
 use Rattle.bandwidth_model.specs.Ledger.{Ledger, accepted, note, started}
 use Rattle.bandwidth_model.specs.Runs.{stateAfter, ledgerAfter, answerAfter}
 use Rattle.bandwidth_model.specs.Claim.{settingsBy}
-use Rattle.bandwidth_model.specs.Counters.{Tally, tally, tallyStart}
-use Rattle.bandwidth_model.specs.Registers.{Notes, notesStart, statusBy, monStatusBy, controlAfter, noteRegisters, notesAfter, registersBy, RegisterReads, AllRegisterReads}
+use Rattle.bandwidth_model.specs.Counters.{tally}
+use Rattle.bandwidth_model.specs.Registers.{Notes, notesStart, statusBy, monStatusBy, controlAfter, noteRegisters, notesAfter, RegisterReads, AllRegisterReads}
 use Rattle.bandwidth_model.proofs.Invariant.{Inv, inv-step}
 use Rattle.bandwidth_model.proofs.Counters.{Counts, counts-step, counts-first}
 use Rattle.bandwidth_model.proofs.Steps.{accepting, value-is}
@@ -91,14 +91,6 @@ record Noted (s : State) (n : Notes) : Type 0 where
   alloc : s .alloc .ctl ≡ n .allocCtl
   mon : s .monitor .ctl ≡ n .monCtl
 
--- a register that a performed call leaves as the notes have it, and a refused one as it was
-control-step : (s : State) (ctl : State → ℕ) (c : Call) (new old : ℕ) → ctl (perform s c .state) ≡ new → ctl s ≡ old
-    → ctl (step s c .state) ≡ cond (accepted (step s c .answer)) new old
-unfolding accepted
-control-step s ctl c new old p q =
-    step-by refusal perform refused s c (λ o. ctl (o .state) ≡ cond (accepted (o .answer)) new old)
-    (λ e. p ∙ sym (cond-yes (accepted (perform s c .answer)) new old (accepting .performs s c))) (λ t. q)
-
 noted-step : (s : State) (n : Notes) → Noted s n → (c : Call) → Noted (step s c .state) (noteRegisters n (event step s c))
 unfolding noteRegisters
 noted-step s n k c =
@@ -106,8 +98,8 @@ noted-step s n k c =
     record {
       inv = inv-step s (n .ledger) i c;
       counts = counts-step s (n .ledger) (n .tally) i (k .counts) c;
-      alloc = control-step s (λ x. x .alloc .ctl) c (controlAfter 3 (allocBy (n .ledger)) (n .allocCtl) c) (n .allocCtl) (perform-alloc s c ∙ rw (k .alloc, i .same) refl) (k .alloc);
-      mon = control-step s (λ x. x .monitor .ctl) c (controlAfter 1 (monBy (n .ledger)) (n .monCtl) c) (n .monCtl) (perform-mon s c ∙ rw (k .mon, i .same) refl) (k .mon);
+      alloc = part-step accepting s c (λ x. x .alloc .ctl) (controlAfter 3 (allocBy (n .ledger)) (n .allocCtl) c) (n .allocCtl) (perform-alloc s c ∙ rw (k .alloc, i .same) refl) (k .alloc);
+      mon = part-step accepting s c (λ x. x .monitor .ctl) (controlAfter 1 (monBy (n .ledger)) (n .monCtl) c) (n .monCtl) (perform-mon s c ∙ rw (k .mon, i .same) refl) (k .mon);
     }
 
 module _ (s : State) (su : Setup) (e : step s (reset su) .answer ≡ done) where
@@ -129,15 +121,15 @@ module _ (s : State) (su : Setup) (e : step s (reset su) .answer ≡ done) where
         → x ≡ allocBy (ledgerAfter s su cs) v
     unfolding readAt register access.part perform writeAt withAlloc writeAlloc
     read-alloc a r =
-        value-is (stateAfter s su (cs ++ write size 24 v ∷ [])) 8 24 x r ∙ ap (λ (y : State). y .alloc .ctl) (state-one step reset s su cs (write size 24 v))
-        ∙ ap (λ (o : Outcome). o .state .alloc .ctl) (done-step accepting (stateAfter s su cs) (write size 24 v) a) ∙ rw (inv-after s su e cs .same) refl
+        value-is (stateAfter s su (cs ++ write size 24 v ∷ [])) 8 24 x r
+        ∙ ap (λ (y : State). y .alloc .ctl) (performed-after accepting reset s su cs (write size 24 v) a) ∙ rw (inv-after s su e cs .same) refl
 
     read-mon : T (accepted (answerAfter s su cs (write size 8 v))) → answerAfter s su (cs ++ write size 8 v ∷ []) (read 8 8) ≡ value x
         → x ≡ monBy (ledgerAfter s su cs) v
     unfolding readAt register access.part perform writeAt withMonitor writeMon
     read-mon a r =
-        value-is (stateAfter s su (cs ++ write size 8 v ∷ [])) 8 8 x r ∙ ap (λ (y : State). y .monitor .ctl) (state-one step reset s su cs (write size 8 v))
-        ∙ ap (λ (o : Outcome). o .state .monitor .ctl) (done-step accepting (stateAfter s su cs) (write size 8 v) a) ∙ rw (inv-after s su e cs .same) refl
+        value-is (stateAfter s su (cs ++ write size 8 v ∷ [])) 8 8 x r
+        ∙ ap (λ (y : State). y .monitor .ctl) (performed-after accepting reset s su cs (write size 8 v) a) ∙ rw (inv-after s su e cs .same) refl
 
   claim : (cs : List Call) → RegisterReads s su cs
   unfolding noteAfter started notesStart noteRegisters readAt register settings settingsBy

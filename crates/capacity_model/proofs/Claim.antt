@@ -36,7 +36,6 @@ module _ (s : State) (su : Setup) (e : step s (reset su) .answer ≡ done) where
   back before between c p k = stands (standing accepting setting) reset started s su (inv-first s su e) before between c p (k .made) (k .kept)
 
   claim : (cs : List Call) → Claim s su cs
-  unfolding access.part
   claim cs = record {
     masks = λ before after q. sym (ap (λ (k : Ledger). k .masks) (inv-after s su e before .same));
     reads = λ before after size offset v q o a. mask-read (stateAfter s su before) (ledgerAfter s su before) (inv-after s su e before) size offset v o a;
@@ -44,15 +43,16 @@ module _ (s : State) (su : Setup) (e : step s (reset su) .answer ≡ done) where
     kept = λ before between after c p q k.
         let b = back before between c p k in
         rw (ap (λ (x : Setup). x .na) (b .same)) at (b .stands .word);
-    readBack = λ before between after c p size v x q k o er ea a r.
+    readBack = λ before between after c p size v size′ offset x q n k o er ea a r.
         let l = before ++ c ∷ between in
         let w = write size 24 v in
         let b = back before between c p k in
         let i = inv-after s su e (l ++ w ∷ []) in
-        mask-read (stateAfter s su (l ++ w ∷ [])) (ledgerAfter s su (l ++ w ∷ [])) i 8 32 x refl r
-        ∙ ap (λ (k : Ledger). k .mask) (i .same)
+        mask-read (stateAfter s su (l ++ w ∷ [])) (ledgerAfter s su (l ++ w ∷ [])) i size′ offset x n r
+        ∙ ap (access.part size′ offset)
+        (ap (λ (k : Ledger). k .mask) (i .same)
         ∙ ap (λ (y : State). y .alloc .mask) (state-one step reset s su l w)
-        ∙ read-back (stateAfter s su l) p (b .stands) size v o er (ap (λ (x : Setup). atOf (x .na) v) (b .same) ∙ ea) a;
+        ∙ read-back (stateAfter s su l) p (b .stands) size v o er (ap (λ (x : Setup). atOf (x .na) v) (b .same) ∙ ea) a);
   }
 
 pub claims : Claims

@@ -67,14 +67,14 @@ pub record Claim (s : State) (su : Setup) (cs : List Call) : Type 0 where
   pub kept : (before between after : List Call) (c : Call) (p : Setting) → cs ≡ before ++ c ∷ between ++ after
       → Stands s su before between c p
       → wordAt (ledgerAfter s su before .setup .na) (stateAfter s su (before ++ c ∷ between) .alloc .masks) (p .rcid) (p .at) ≡ p .word
-  -- and reads back through a READ_LIMIT and a read of block_mask
-  pub readBack : (before between after : List Call) (c : Call) (p : Setting) (size v x : ℕ)
-      → cs ≡ before ++ c ∷ between ++ write size (8 * access.allocCtl) v ∷ read 8 (8 * access.operand) ∷ after
-      → Stands s su before between c p
+  -- and reads back through a READ_LIMIT and a read of block_mask, whole or either half
+  pub readBack : (before between after : List Call) (c : Call) (p : Setting) (size v size′ offset x : ℕ)
+      → cs ≡ before ++ c ∷ between ++ write size (8 * access.allocCtl) v ∷ read size′ offset ∷ after
+      → access.registerAt offset ≡ access.operand → Stands s su before between c p
       → opOf v ≡ readLimit → rcidOf v ≡ p .rcid → atOf (ledgerAfter s su before .setup .na) v ≡ p .at
       → T (accepted (answerAfter s su (before ++ c ∷ between) (write size (8 * access.allocCtl) v)))
-      → answerAfter s su (before ++ c ∷ between ++ write size (8 * access.allocCtl) v ∷ []) (read 8 (8 * access.operand)) ≡ value x
-      → x ≡ p .word
+      → answerAfter s su (before ++ c ∷ between ++ write size (8 * access.allocCtl) v ∷ []) (read size′ offset) ≡ value x
+      → x ≡ access.part size′ offset (p .word)
 
 pub record Claims : Type 0 where
   pub always : (s : State) (su : Setup) (cs : List Call) → step s (reset su) .answer ≡ done → Claim s su cs
