@@ -1,0 +1,36 @@
+-- What is claimed of packing: where fields do not overlap, pack and unpack undo each other. The registers' fields do not.
+use mathlib.Core.Path.{_≡_}
+use mathlib.Core.List.{List}
+use Prim.Native.Nat.{ℕ}
+use lib.Bits.{bitAnd}
+use Rattle.fields.specs.Layout.{Place, Ordered, InRange, pack, unpack, named, Unpacked}
+use Rattle.fields.specs.Registers as reg
+use Rattle.fields.specs.declared.AllocCtl.{AllocCtl}
+use Rattle.fields.specs.declared.MonCtl.{MonCtl}
+
+-- no two fields overlap, all end at or below top, and these are the bits that they name
+pub record Register (fs : List Place) (top mask : ℕ) : Type 0 where
+  pub ordered : Ordered fs top
+  pub names : named fs ≡ mask
+
+pub record Packing : Type 0 where
+  -- unpack after pack gives the values back
+  pub packed : (fs : List Place) (top : ℕ) (vs : List ℕ) → Ordered fs top → InRange fs vs → unpack fs (pack fs vs) ≡ vs
+  -- pack after unpack keeps exactly the named bits
+  pub unpacked : (fs : List Place) (top word : ℕ) → Ordered fs top → pack fs (unpack fs word) ≡ bitAnd word (named fs)
+  -- and what was unpacked is in range
+  pub fits : (fs : List Place) (word : ℕ) → InRange fs (unpack fs word)
+  -- the registers
+  pub allocCtl : Register reg.allocCtl 40 0xff000fffff
+  pub monCtl : Register reg.monCtl 40 0xff1fffffff
+  pub bwAlloc : Register reg.bwAlloc 32 0xfff0ffff
+  pub bandwidthCounter : Register reg.bandwidthCounter 64 0xffff_ffff_ffff_ffff
+  pub capacityCounter : Register reg.capacityCounter 64 0xffff_ffff_ffff_ffff
+  pub bandwidthCapabilities : Register reg.bandwidthCapabilities 48 0xffff00ffffff
+  pub capacityCapabilities : Register reg.capacityCapabilities 25 0x1ffffff
+  pub counterSetting : Register reg.counterSetting 12 0xfff
+  -- with NA = 1 the bits of AT and ATV are dropped too
+  pub allocCtl1 : (word : ℕ) (r : AllocCtl) → Unpacked reg.allocCtl word (reg.ofAllocCtl r)
+      → pack reg.allocCtl (reg.ofAllocCtl (reg.heldAllocCtl 1 r)) ≡ bitAnd word 0xff000fff1f
+  pub monCtl1 : (word : ℕ) (r : MonCtl) → Unpacked reg.monCtl word (reg.ofMonCtl r)
+      → pack reg.monCtl (reg.ofMonCtl (reg.heldMonCtl 1 r)) ≡ bitAnd word 0xff0fffff1f
