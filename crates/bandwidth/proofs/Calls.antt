@@ -15,8 +15,9 @@ use Rattle.access.specs.declared.Refusal.{Refusal}
 use Rattle.access.specs.declared.Refusal.the-variants.{Identifier}
 use Rattle.access.specs.Access.{readChecks, writeChecks}
 use Rattle.access.specs.Pairs.{knownAt}
+use Rattle.tables.specs.Below.{Small}
 use Rattle.tables.proofs.Tests.{nor-l, of-true, of-false}
-use Rattle.monitor.specs.Monitor.{Monitor, cleared, writeMon, counted}
+use Rattle.monitor.specs.Monitor.{Monitor, cleared, monStatus, monAfter, writeMon, counted}
 use Rattle.monitor.specs.Bytes.{lastEvent, countsRequest, added}
 use Rattle.bandwidth_model.specs.Rules.{Setup, setupOk, pairs, Holder, holderOf, bwWord}
 use Rattle.bandwidth_model.specs.Calls.{Call, reset, read, write, request, endWindow, refused, done, value, granted}
@@ -133,10 +134,10 @@ module _ (s : State) (offset v : ℕ) where
   unfolding writeAt withAlloc writeBw
   write-bw-at w e q = rw (e, q) refl
 
-  pub write-mon-at : (m : Monitor) → offset ≡ 8 → m ≡ writeMon (s .setup .na) (s .setup .nm) lastEvent (s .monitor) v
+  pub write-mon-at : (st : ℕ) (m : Monitor) → offset ≡ 8 → Small (monStatus (s .setup .na) (s .setup .nm) lastEvent v) 5 st → m ≡ monAfter (s .setup .na) st (s .monitor) v
       → record { setup = s .setup; alloc = s .alloc; usage = s .usage; monitor = m } ≡ writeAt s offset v
-  unfolding writeAt withMonitor
-  write-mon-at m e q = rw (e, q) refl
+  unfolding writeAt withMonitor writeMon
+  write-mon-at st m e g q = rw (e, q, g .is) refl
 
   pub write-none : (offset ≡ 24 → ⊥) → (offset ≡ 32 → ⊥) → (offset ≡ 8 → ⊥) → s ≡ writeAt s offset v
   unfolding writeAt

@@ -12,6 +12,7 @@ use access::read_verdict;
 use access::write_verdict;
 use fields::BandwidthCapabilities;
 use monitor::Registers;
+use monitor::bandwidth_status;
 use monitor::write_mon;
 use settings::bw_word;
 use settings::write_alloc;
@@ -22,9 +23,6 @@ ghost use Rattle.bandwidth_model.specs.Model.{capabilities, register, writeAt, 
 ghost use Rattle.setup.specs.View.{setupOf};
 ghost use Rattle.bandwidth.specs.View.{state, outcome, ackOf, readingOf};
 ghost use Rattle.bandwidth.specs.Checked.{Passes};
-
-// The highest EVT_ID that the bandwidth controller knows.
-const LAST_EVENT: u64 = 3;
 
 impl Record {
     // What capabilities reads.
@@ -133,7 +131,8 @@ impl Record {
                     ctl: self.mon_ctl,
                     value: self.mon_ctr_val,
                 };
-                let done = write_mon(setup.na, setup.nm, LAST_EVENT, old, counters, events, value);
+                let status = bandwidth_status(setup.na, setup.nm, value);
+                let done = write_mon(setup.na, status, old, counters, events, value);
                 self.mon_ctl = done.ctl;
                 self.mon_ctr_val = done.value;
             }

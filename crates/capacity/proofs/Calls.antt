@@ -8,6 +8,7 @@ use native.Mathlib.Omega.{arith}
 use lib.Dec.{T}
 use lib.ListN.{getD, set, replicate}
 use borrow.Author.Tests.{ne-eqb}
+use Rattle.tables.specs.Below.{Small}
 use Rattle.access.specs.Access as access
 use Rattle.access.specs.Checks.{first}
 use Rattle.access.specs.Pairs.{knownAt}
@@ -15,7 +16,7 @@ use Rattle.access.specs.Refusals.{numberOf}
 use Rattle.access.specs.declared.Refusal.{Refusal}
 use Rattle.access.proofs.Access.{halves}
 use Rattle.access.proofs.Refusals.{number-pos}
-use Rattle.monitor.specs.Monitor.{Monitor, cleared, writeMon, counted}
+use Rattle.monitor.specs.Monitor.{Monitor, cleared, monStatus, monAfter, writeMon, counted}
 use Rattle.monitor.specs.Occupancy.{lastEvent, countsBlock, filled, evicted}
 use Rattle.capacity_model.specs.Rules.{Setup, maskOf, resetMasks}
 use Rattle.capacity_model.specs.Calls.{Call, reset, fill, evict, refused, done, value, allowed}
@@ -64,10 +65,10 @@ module _ (s : State) (size offset v : ℕ) where
       let other : offset ≡ 24 → ⊥ = λ h. ⊎-elim (λ (k : offset ≡ 32). omega arith) (λ (k : offset ≡ 36). omega arith) e in
       rw (r, q, inside, ne-eqb offset 24 other) refl
 
-  pub write-mon-at : (m : Monitor) → offset ≡ 8 → m ≡ writeMon (s .setup .na) (s .setup .nm) lastEvent (s .monitor) v
+  pub write-mon-at : (st : ℕ) (m : Monitor) → offset ≡ 8 → Small (monStatus (s .setup .na) (s .setup .nm) lastEvent v) 5 st → m ≡ monAfter (s .setup .na) st (s .monitor) v
       → record { setup = s .setup; alloc = s .alloc; monitor = m } ≡ writeAt s size offset v
-  unfolding writeAt withMonitor
-  write-mon-at m e q = rw (e, q) refl
+  unfolding writeAt withMonitor writeMon
+  write-mon-at st m e g q = rw (e, q, g .is) refl
 
   pub write-none : first (access.writeChecks size offset v) 0 ≡ 0 → (offset ≡ 24 → ⊥) → ((offset ≡ 32) ⊎ (offset ≡ 36) → ⊥) → (offset ≡ 8 → ⊥) → s ≡ writeAt s size offset v
   unfolding writeAt

@@ -13,6 +13,7 @@ use fields::CapacityCapabilities;
 use masks::mask_of;
 use masks::write_alloc;
 use monitor::Registers;
+use monitor::capacity_status;
 use monitor::write_mon;
 ghost use mathlib.Core.Path.{_≡_};
 ghost use Rattle.access.specs.Access.{writeChecks};
@@ -22,9 +23,6 @@ ghost use Rattle.capacity_model.specs.Calls.{read, write};
 ghost use Rattle.capacity_model.specs.Model.{capabilities, register, writeAt, step};
 ghost use Rattle.masks.specs.View.{setupOf};
 ghost use Rattle.capacity.specs.View.{state, outcome, ackOf, readingOf};
-
-// The highest EVT_ID that the capacity controller knows.
-const LAST_EVENT: u64 = 1;
 
 impl Record {
     // What capabilities reads; FRCID is 0.
@@ -115,7 +113,8 @@ impl Record {
                     ctl: self.mon_ctl,
                     value: self.mon_ctr_val,
                 };
-                let done = write_mon(setup.na, setup.nm, LAST_EVENT, old, counters, events, value);
+                let status = capacity_status(setup.na, setup.nm, value);
+                let done = write_mon(setup.na, status, old, counters, events, value);
                 self.mon_ctl = done.ctl;
                 self.mon_ctr_val = done.value;
             }

@@ -32,11 +32,11 @@ limit-at nr na bad table word v = changed-if (done nr na bad configLimit v) (pai
 -- an operation of mon_ctl: at the MCID that it names
 module _ (na nm last : ℕ) (m : Monitor) (v : ℕ) where
   pub counters-at : OnlyAt (mcidOf v) (m .counters) (writeMon na nm last m v .counters)
-  unfolding writeMon
+  unfolding writeMon monDone
   counters-at = changed-if (monDone na nm last configEvent v && not (eqb (eventOf v) 0)) (mcidOf v) (m .counters) 0
 
   pub events-at : OnlyAt (mcidOf v) (m .events) (writeMon na nm last m v .events)
-  unfolding writeMon
+  unfolding writeMon monDone
   events-at = changed-if (monDone na nm last configEvent v) (mcidOf v) (m .events) (settingOf na v)
 
 -- counting: at the MCID of the call
