@@ -22,7 +22,7 @@ use Rattle.monitor.specs.Bytes.{lastEvent, countsRequest, added}
 use Rattle.bandwidth_model.specs.Rules.{Setup, setupOk, pairs, Holder, holderOf, bwWord}
 use Rattle.bandwidth_model.specs.Calls.{Call, reset, read, write, request, endWindow, refused, done, value, granted}
 use Rattle.bandwidth_model.specs.Claim.{isReset}
-use Rattle.bandwidth_model.specs.Model.{State, Allocation, Usage, Outcome, lengthsOk, argumentChecks, stateChecks, readAt, opened, afterReset, afterWindow, Grant, grantOf, grantSum, spend, serve, serveFrom, requested, writeAlloc, writeBw, withAlloc, withMonitor, writeAt, perform, step}
+use Rattle.bandwidth_model.specs.Model.{State, Allocation, Usage, Outcome, lengthsOk, argumentChecks, stateChecks, readAt, opened, afterReset, afterWindow, Grant, grantOf, grantSum, spend, serve, serveFrom, requested, writeAlloc, writeBw, writeAt, perform, step}
 use Rattle.bandwidth_model.proofs.Steps.{checking}
 use Rattle.bandwidth.specs.declared.check.Totals.{Totals}
 use Rattle.bandwidth.specs.View.{outcome}
@@ -121,7 +121,7 @@ serve-steps s rcid mcid at kind bytes a h g u counters e₁ e₂ e₃ e₄ e₅ 
 module _ (s : State) (offset v : ℕ) where
   pub write-alloc-at : (a : Allocation) → offset ≡ 24 → a ≡ writeAlloc (s .setup) (s .alloc .bw) (s .alloc .configured) v
       → record { setup = s .setup; alloc = a; usage = s .usage; monitor = s .monitor } ≡ writeAt s offset v
-  unfolding writeAt withAlloc
+  unfolding writeAt
   write-alloc-at a e q = rw (e, q) refl
 
   pub write-bw-at : (w : ℕ) → offset ≡ 32 → w ≡ bwWord v
@@ -131,12 +131,12 @@ module _ (s : State) (offset v : ℕ) where
         usage = s .usage;
         monitor = s .monitor;
       } ≡ writeAt s offset v
-  unfolding writeAt withAlloc writeBw
+  unfolding writeAt writeBw
   write-bw-at w e q = rw (e, q) refl
 
   pub write-mon-at : (st : ℕ) (m : Monitor) → offset ≡ 8 → Small (monStatus (s .setup .na) (s .setup .nm) lastEvent v) 5 st → m ≡ monAfter (s .setup .na) st (s .monitor) v
       → record { setup = s .setup; alloc = s .alloc; usage = s .usage; monitor = m } ≡ writeAt s offset v
-  unfolding writeAt withMonitor writeMon
+  unfolding writeAt writeMon
   write-mon-at st m e g q = rw (e, q, g .is) refl
 
   pub write-none : (offset ≡ 24 → ⊥) → (offset ≡ 32 → ⊥) → (offset ≡ 8 → ⊥) → s ≡ writeAt s offset v

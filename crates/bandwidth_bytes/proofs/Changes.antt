@@ -45,7 +45,7 @@ not-written s v = record { configured = unchanged _ _; counters = unchanged _ _;
 
 module _ (s : State) (offset v : ℕ) where
   written : Written s v (writeAt s offset v)
-  unfolding writeAt withAlloc withMonitor writeAlloc writeBw
+  unfolding writeAt writeAlloc writeBw
   written =
       let su : Setup = s .setup in
       let limit : State = withAlloc s (writeAlloc su (s .alloc .bw) (s .alloc .configured) v) in

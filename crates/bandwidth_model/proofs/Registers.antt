@@ -42,7 +42,7 @@ monBy l v = monWord (l .setup .na) v (monStatusBy l v)
 module _ (s : State) where
   write-alloc : (offset v : ℕ)
       → writeAt s offset v .alloc .ctl ≡ cond (eqb offset 24) (allocWord (s .setup .na) v (allocStatus (s .setup) (s .alloc .configured) (s .alloc .bw) v)) (s .alloc .ctl)
-  unfolding writeAt withAlloc writeAlloc writeBw withMonitor
+  unfolding writeAt writeAlloc writeBw
   write-alloc offset v =
       let w = writeAlloc (s .setup) (s .alloc .bw) (s .alloc .configured) v in
       let b = withAlloc s (writeBw (s .alloc) v) in
@@ -54,7 +54,7 @@ module _ (s : State) where
 
   write-mon : (offset v : ℕ)
       → writeAt s offset v .monitor .ctl ≡ cond (eqb offset 8) (monWord (s .setup .na) v (monStatus (s .setup .na) (s .setup .nm) lastEvent v)) (s .monitor .ctl)
-  unfolding writeAt withAlloc withMonitor writeMon
+  unfolding writeAt writeMon
   write-mon offset v =
       let a = withAlloc s (writeAlloc (s .setup) (s .alloc .bw) (s .alloc .configured) v) in
       let b = withAlloc s (writeBw (s .alloc) v) in
@@ -119,14 +119,14 @@ module _ (s : State) (su : Setup) (e : step s (reset su) .answer ≡ done) where
   module _ (cs : List Call) (size v x : ℕ) where
     read-alloc : T (accepted (answerAfter s su cs (write size 24 v))) → answerAfter s su (cs ++ write size 24 v ∷ []) (read 8 24) ≡ value x
         → x ≡ allocBy (ledgerAfter s su cs) v
-    unfolding readAt register access.part perform writeAt withAlloc writeAlloc
+    unfolding readAt register access.part perform writeAt writeAlloc
     read-alloc a r =
         value-is (stateAfter s su (cs ++ write size 24 v ∷ [])) 8 24 x r
         ∙ ap (λ (y : State). y .alloc .ctl) (performed-after accepting reset s su cs (write size 24 v) a) ∙ rw (inv-after s su e cs .same) refl
 
     read-mon : T (accepted (answerAfter s su cs (write size 8 v))) → answerAfter s su (cs ++ write size 8 v ∷ []) (read 8 8) ≡ value x
         → x ≡ monBy (ledgerAfter s su cs) v
-    unfolding readAt register access.part perform writeAt withMonitor writeMon
+    unfolding readAt register access.part perform writeAt writeMon
     read-mon a r =
         value-is (stateAfter s su (cs ++ write size 8 v ∷ [])) 8 8 x r
         ∙ ap (λ (y : State). y .monitor .ctl) (performed-after accepting reset s su cs (write size 8 v) a) ∙ rw (inv-after s su e cs .same) refl

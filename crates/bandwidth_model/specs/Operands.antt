@@ -3,8 +3,8 @@ use mathlib.Core.Path.{_≡_}
 use mathlib.Core.Bool.{Bool, true, false, not}
 use mathlib.Core.List.{List, [], _∷_, map}
 use Prim.Native.Nat.{ℕ, _+_, _*_}
-use lib.Dec.{leb, ltb, eqb}
 use lib.ListN.{set}
+use Rattle.tables.specs.Notation.{_==_, _≤?_, _<?_}
 use Rattle.tables.specs.Below.{anyBelow}
 use Rattle.access.specs.Pairs.{pair, wordAt}
 use Rattle.bandwidth_model.specs.Rules.{Setup, rbwbOf, sharedAtOf, isHolder, total, shares, badOperand}
@@ -31,7 +31,7 @@ pub data Case : Type 0 where
 -- Rbwb is 0; Rbwb plus the Rbwb of every other holder exceeds MRBWB
 unfoldable pub asHolder : List ℕ → Case → Case
 asHolder t (operand rcid at word clauses bad) =
-    operand rcid at word (eqb (rbwbOf word) 0 ∷ ltb (board .mrbwb) (rbwbOf word + total (set t (pair (board .na) rcid at) 0)) ∷ [])
+    operand rcid at word ((rbwbOf word == 0) ∷ (board .mrbwb <? rbwbOf word + total (set t (pair (board .na) rcid at) 0)) ∷ [])
     (badOperand board t rcid at word)
 
 abbrev pub holders : List Case
@@ -61,7 +61,7 @@ blocksOfSharer = 60 ∷ (sharing 0 + 25) ∷ 0 ∷ 0 ∷ 0 ∷ 0 ∷ 0 ∷ 0 ∷
 unfoldable pub asSharer : List ℕ → Case → Case
 asSharer t (operand rcid at word clauses bad) =
     operand rcid at word
-    (eqb (sharedAtOf word) at ∷ leb (board .na) (sharedAtOf word) ∷ not (isHolder (wordAt (board .na) t rcid (sharedAtOf word)))
+    ((sharedAtOf word == at) ∷ (board .na ≤? sharedAtOf word) ∷ not (isHolder (wordAt (board .na) t rcid (sharedAtOf word)))
     ∷ anyBelow (board .na) (shares board t rcid at) ∷ [])
     (badOperand board t rcid at word)
 

@@ -21,7 +21,7 @@ use Rattle.monitor.specs.Occupancy.{lastEvent, countsBlock, filled, evicted}
 use Rattle.capacity_model.specs.Rules.{Setup, maskOf, resetMasks}
 use Rattle.capacity_model.specs.Calls.{Call, reset, fill, evict, refused, done, value, allowed}
 use Rattle.capacity_model.specs.Claim.{isReset}
-use Rattle.capacity_model.specs.Model.{State, Allocation, Outcome, argumentChecks, setupChecks, stateChecks, afterReset, writeAlloc, writeMask, withAlloc, withMonitor, writeAt, noteBlock, fillAllowed, fillWith, perform, step}
+use Rattle.capacity_model.specs.Model.{State, Allocation, Outcome, argumentChecks, setupChecks, stateChecks, afterReset, writeAlloc, writeMask, writeAt, noteBlock, fillAllowed, fillWith, perform, step}
 use Rattle.runs.proofs.Checks.{step-failed, step-refused, step-done, reset-failed, reset-done}
 use Rattle.capacity_model.proofs.Steps.{checking}
 use Rattle.capacity.specs.View.{outcome}
@@ -54,12 +54,12 @@ module _ (s : State) (su : Setup) where
 module _ (s : State) (size offset v : ℕ) where
   pub write-alloc-at : (a : Allocation) → offset ≡ 24 → a ≡ writeAlloc (s .setup) (s .alloc .mask) (s .alloc .masks) v
       → record { setup = s .setup; alloc = a; monitor = s .monitor } ≡ writeAt s size offset v
-  unfolding writeAt withAlloc
+  unfolding writeAt
   write-alloc-at a e q = rw (e, q) refl
 
   pub write-mask-at : (w m : ℕ) → (offset ≡ 32) ⊎ (offset ≡ 36) → w ≡ access.replaced size offset (s .alloc .mask) v → m ≡ maskOf (s .setup) w
       → record { setup = s .setup; alloc = record { ctl = s .alloc .ctl; mask = m; masks = s .alloc .masks }; monitor = s .monitor } ≡ writeAt s size offset v
-  unfolding writeAt withAlloc writeMask
+  unfolding writeAt writeMask
   write-mask-at w m e q r =
       let inside : offset / 8 ≡ 4 = ⊎-elim (λ (h : offset ≡ 32). rw h refl) (λ (h : offset ≡ 36). rw h refl) e in
       let other : offset ≡ 24 → ⊥ = λ h. ⊎-elim (λ (k : offset ≡ 32). omega arith) (λ (k : offset ≡ 36). omega arith) e in
@@ -67,7 +67,7 @@ module _ (s : State) (size offset v : ℕ) where
 
   pub write-mon-at : (st : ℕ) (m : Monitor) → offset ≡ 8 → Small (monStatus (s .setup .na) (s .setup .nm) lastEvent v) 5 st → m ≡ monAfter (s .setup .na) st (s .monitor) v
       → record { setup = s .setup; alloc = s .alloc; monitor = m } ≡ writeAt s size offset v
-  unfolding writeAt withMonitor writeMon
+  unfolding writeAt writeMon
   write-mon-at st m e g q = rw (e, q, g .is) refl
 
   pub write-none : first (access.writeChecks size offset v) 0 ≡ 0 → (offset ≡ 24 → ⊥) → ((offset ≡ 32) ⊎ (offset ≡ 36) → ⊥) → (offset ≡ 8 → ⊥) → s ≡ writeAt s size offset v
@@ -92,11 +92,11 @@ module _ (s : State) (rcid mcid at block a : ℕ) (counters : List ℕ) (e : a �
   }
 
   pub fill-counted : true ≡ fillAllowed s rcid at block → counters ≡ after (filled (s .setup .w)) → outcome (allowed true) noted ≡ perform s (fill rcid mcid at block)
-  unfolding perform fillWith noteBlock withMonitor counted
+  unfolding perform fillWith noteBlock counted
   fill-counted t q = rw (← t, q, e) refl
 
   pub evict-counted : counters ≡ after evicted → outcome done noted ≡ perform s (evict rcid mcid at block)
-  unfolding perform noteBlock withMonitor counted
+  unfolding perform noteBlock counted
   evict-counted q = rw (q, e) refl
 
 pub fill-not : (s : State) (rcid mcid at block : ℕ) → false ≡ fillAllowed s rcid at block → outcome (allowed false) s ≡ perform s (fill rcid mcid at block)

@@ -39,7 +39,7 @@ not-written s v = record { masks = unchanged _ _; counters = unchanged _ _; even
 
 module _ (s : State) (size offset v : ℕ) where
   written : Written s v (writeAt s size offset v)
-  unfolding writeAt withAlloc withMonitor writeAlloc writeMask
+  unfolding writeAt writeAlloc writeMask
   written =
       let su : Setup = s .setup in
       let limit : State = withAlloc s (writeAlloc su (s .alloc .mask) (s .alloc .masks) v) in
@@ -80,7 +80,7 @@ not-noted : (s : State) (mcid : ℕ) → Noted s mcid s
 not-noted s mcid = rw (set-getD (s .monitor .counters) mcid 0) refl
 
 noted : (s : State) (mcid at : ℕ) (change : ℕ → ℕ) → Noted s mcid (noteBlock s mcid at change)
-unfolding noteBlock withMonitor counted
+unfolding noteBlock counted
 noted s mcid at change =
     rw (← counted-at (countsBlock (getD (s .monitor .events) mcid 0) (knownAt (s .setup .na) at)) (s .monitor) mcid change) refl
 

@@ -27,7 +27,7 @@ module _ (s : State) where
   sets-write : (size offset v : ℕ)
       → Sets s (writeAt s size offset v)
       (cond (eqb offset 24 && allocDone (s .setup) (s .alloc .mask) configLimit v) (record { rcid = rcidOf v; at = atOf (s .setup .na) v; word = s .alloc .mask } ∷ []) []) false
-  unfolding writeAt withAlloc writeAlloc writeMask withMonitor tableAfter
+  unfolding writeAt writeAlloc writeMask tableAfter
   sets-write size offset v =
       let su = s .setup in
       let mask = s .alloc .mask in
@@ -43,7 +43,7 @@ module _ (s : State) where
       (λ t. cases (λ x. Sets s (cond x m s) [] false) (eqb offset 8) (λ t. none refl refl) (λ t. none refl refl)))
 
   sets-perform : (c : Call) → Sets s (perform s c .state) (settingsBy (ledgerBy s) c) (isReset c)
-  unfolding perform settingsBy fillWith noteBlock withMonitor
+  unfolding perform settingsBy fillWith noteBlock
   sets-perform (reset su) = anew
   sets-perform (read size offset) = none refl refl
   sets-perform (write size offset v) = sets-write size offset v

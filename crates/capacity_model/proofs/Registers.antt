@@ -41,7 +41,7 @@ monBy l v = monWord (l .setup .na) v (monStatusBy l v)
 
 module _ (s : State) where
   write-alloc : (size offset v : ℕ) → writeAt s size offset v .alloc .ctl ≡ cond (eqb offset 24) (allocWord (s .setup .na) v (allocStatus (s .setup) (s .alloc .mask) v)) (s .alloc .ctl)
-  unfolding writeAt withAlloc writeAlloc writeMask withMonitor
+  unfolding writeAt writeAlloc writeMask
   write-alloc size offset v =
       let operand = eqb (access.registerAt offset) access.operand in
       let w = writeAlloc (s .setup) (s .alloc .mask) (s .alloc .masks) v in
@@ -54,7 +54,7 @@ module _ (s : State) where
 
   write-mon : (size offset v : ℕ)
       → writeAt s size offset v .monitor .ctl ≡ cond (eqb offset 8) (monWord (s .setup .na) v (monStatus (s .setup .na) (s .setup .nm) lastEvent v)) (s .monitor .ctl)
-  unfolding writeAt withAlloc withMonitor writeMon
+  unfolding writeAt writeMon
   write-mon size offset v =
       let operand = eqb (access.registerAt offset) access.operand in
       let a = withAlloc s (writeAlloc (s .setup) (s .alloc .mask) (s .alloc .masks) v) in
@@ -67,7 +67,7 @@ module _ (s : State) where
 
   perform-alloc : (c : Call)
       → perform s c .state .alloc .ctl ≡ controlAfter 3 (λ v. allocWord (s .setup .na) v (allocStatus (s .setup) (s .alloc .mask) v)) (s .alloc .ctl) c
-  unfolding perform controlAfter afterReset fillWith noteBlock withMonitor
+  unfolding perform controlAfter afterReset fillWith noteBlock
   perform-alloc (reset su) = refl
   perform-alloc (read size offset) = refl
   perform-alloc (write size offset v) = write-alloc size offset v
@@ -77,7 +77,7 @@ module _ (s : State) where
 
   perform-mon : (c : Call)
       → perform s c .state .monitor .ctl ≡ controlAfter 1 (λ v. monWord (s .setup .na) v (monStatus (s .setup .na) (s .setup .nm) lastEvent v)) (s .monitor .ctl) c
-  unfolding perform controlAfter afterReset cleared fillWith noteBlock withMonitor counted
+  unfolding perform controlAfter afterReset cleared fillWith noteBlock counted
   perform-mon (reset su) = refl
   perform-mon (read size offset) = refl
   perform-mon (write size offset v) = write-mon size offset v
@@ -121,14 +121,14 @@ module _ (s : State) (su : Setup) (e : step s (reset su) .answer ≡ done) where
   module _ (cs : List Call) (size v x : ℕ) where
     read-alloc : T (accepted (answerAfter s su cs (write size 24 v))) → answerAfter s su (cs ++ write size 24 v ∷ []) (read 8 24) ≡ value x
         → x ≡ allocBy (ledgerAfter s su cs) v
-    unfolding readAt register access.part perform writeAt withAlloc writeAlloc
+    unfolding readAt register access.part perform writeAt writeAlloc
     read-alloc a r =
         value-is (stateAfter s su (cs ++ write size 24 v ∷ [])) 8 24 x r
         ∙ ap (λ (y : State). y .alloc .ctl) (performed-after accepting reset s su cs (write size 24 v) a) ∙ rw (inv-after s su e cs .same) refl
 
     read-mon : T (accepted (answerAfter s su cs (write size 8 v))) → answerAfter s su (cs ++ write size 8 v ∷ []) (read 8 8) ≡ value x
         → x ≡ monBy (ledgerAfter s su cs) v
-    unfolding readAt register access.part perform writeAt withMonitor writeMon
+    unfolding readAt register access.part perform writeAt writeMon
     read-mon a r =
         value-is (stateAfter s su (cs ++ write size 8 v ∷ [])) 8 8 x r
         ∙ ap (λ (y : State). y .monitor .ctl) (performed-after accepting reset s su cs (write size 8 v) a) ∙ rw (inv-after s su e cs .same) refl

@@ -1,9 +1,10 @@
 -- What is claimed of any list of calls on a capacity controller that an accepted reset opens, by the ledger.
 use mathlib.Core.Path.{_≡_}
-use mathlib.Core.Bool.{Bool, cond, _&&_}
+use mathlib.Core.Bool.{Bool, _&&_}
 use mathlib.Core.List.{List, [], _∷_, _++_, List·Memᴰ}
 use Prim.Native.Nat.{ℕ, _*_}
 use lib.Dec.{T}
+use Rattle.tables.specs.Notation.{if_then_else_}
 use Rattle.runs.specs.Runs.{events}
 use Rattle.runs.specs.Runs as runs
 use Rattle.runs.specs.Settings as shared
@@ -24,8 +25,8 @@ unfoldable pub settingsBy : Ledger → Call → List Setting
 settingsBy l (reset su) = []
 settingsBy l (read size offset) = []
 settingsBy l (write size offset v) =
-    cond (access.writesLow offset access.allocCtl && allocDone (l .setup) (l .mask) configLimit v)
-    (record { rcid = rcidOf v; at = atOf (l .setup .na) v; word = l .mask } ∷ []) []
+    if access.writesLow offset access.allocCtl && allocDone (l .setup) (l .mask) configLimit v
+    then record { rcid = rcidOf v; at = atOf (l .setup .na) v; word = l .mask } ∷ [] else []
 settingsBy l (fill rcid mcid at block) = []
 settingsBy l (evict rcid mcid at block) = []
 
