@@ -551,9 +551,9 @@ static inline uint64_t cbqri_cc_evict(const struct cbqri_cc *c, uint64_t rcid, u
  *   Refusal 2 is about this count. The record stays little-endian bytes with
  *   its length in bytes.
  * - A table that a call never changes is const.
- * - A call takes about 1 KB of stack on rv64. The functions on bytes take 28 KB
- *   (bandwidth) and 20 KB (capacity), whatever the set-up, because they decode
- *   the tables there, and take about 1.2 to 2 times as long for it.
+ * - A call takes at most 1,040 bytes of stack. The functions on bytes take up to
+ *   29,440 (bandwidth) and 21,040 (capacity), whatever the set-up, because they
+ *   decode the tables there, and take longer for it (docs/COST.md).
  * Take the functions on bytes where the tables must have the same bytes on
  * every host or may lie at any address, and the stack is large; otherwise
  * these. On a little-endian host both may be called in turn on the same tables.
