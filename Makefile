@@ -1,5 +1,5 @@
 # make test: prove every crate and run every test; the last line is 'N passed, M failed'.
-.PHONY: test run soak bench firmware firmware-run fmt clean
+.PHONY: test run soak bench firmware firmware-run dist fmt clean
 
 test:
 	@tests/run
@@ -34,6 +34,11 @@ firmware:
 # make firmware-run: the example emulator on qemu's bare board
 firmware-run:
 	@$(MAKE) --no-print-directory -C firmware run
+
+# make dist: target/dist/dipperchest-VERSION.tar.gz, all that is used without the kit, after make test
+dist: target/listing
+	@$(MAKE) --no-print-directory -C firmware >/dev/null
+	@dist/archive
 
 # make install, make uninstall: header, library, pkg-config file and listing below PREFIX=/usr/local, after make test
 LIB = target/staticlib/libcbqri.a
