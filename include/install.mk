@@ -5,7 +5,7 @@
 #     make install LIB=path/to/libcbqri.a LISTING=path/to/listing PREFIX=/usr/local
 #
 # or, alone, make -f include/install.mk install LIB=... PREFIX=...
-# DESTDIR goes before every path, as packagers expect.
+# DESTDIR goes before every path, as packagers expect. make version prints the header's version.
 
 PREFIX ?= /usr/local
 LIB ?= libcbqri.a
@@ -15,7 +15,7 @@ CBQRI_INCLUDE := $(dir $(lastword $(MAKEFILE_LIST)))
 CBQRI_VERSION := $(shell awk '$$2 == "CBQRI_VERSION_STRING" { gsub("\"", "", $$3); print $$3 }' $(CBQRI_INCLUDE)cbqri.h)
 CBQRI_ROOT = $(DESTDIR)$(PREFIX)
 
-.PHONY: install uninstall
+.PHONY: install uninstall version
 
 install: $(LIB) $(LISTING)
 	install -d "$(CBQRI_ROOT)/include" "$(CBQRI_ROOT)/lib/pkgconfig" $(if $(LISTING),"$(CBQRI_ROOT)/bin")
@@ -28,3 +28,6 @@ install: $(LIB) $(LISTING)
 uninstall:
 	rm -f "$(CBQRI_ROOT)/include/cbqri.h" "$(CBQRI_ROOT)/lib/libcbqri.a" "$(CBQRI_ROOT)/lib/pkgconfig/cbqri.pc" \
 		$(if $(LISTING),"$(CBQRI_ROOT)/bin/listing")
+
+version:
+	@echo $(CBQRI_VERSION)
