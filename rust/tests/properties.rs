@@ -146,6 +146,24 @@ fn random_calls() {
     assert!((1000..15000).contains(&refused), "{refused} of 30,000 calls were refused");
 }
 
+/// Several threads read one controller.
+#[test]
+fn reads_at_the_same_time() {
+    let setup = BandwidthSetup { nbwblks: 90, mrbwb: 80, nr: 16, na: 4, nm: 16, q: 64, w: 24 };
+    let bw = &Bandwidth::new(setup).unwrap();
+    let capabilities = bw.read(8, reg::CAPABILITIES);
+    std::thread::scope(|scope| {
+        for _ in 0..4 {
+            scope.spawn(|| {
+                for _ in 0..1000 {
+                    assert_eq!(bw.read(8, reg::CAPABILITIES), capabilities);
+                    assert_eq!(bw.read(8, 4), Err(Refusal::Offset));
+                }
+            });
+        }
+    });
+}
+
 /// `Debug` of the largest set-up is short, and shows what is set.
 #[test]
 fn debug_is_short() {
