@@ -54,9 +54,9 @@
  *   must have its buffers for itself.
  * - Buffers may be saved and restored like any bytes. A state that one version
  *   saved is taken by every version with the same major number and, while that
- *   is 0, the same minor number, and means the same there. Another version may
- *   ask for other lengths: it then refuses the state (1 or 2), or it says in
- *   CHANGELOG.md what to do with it.
+ *   is 0, the same minor number, and means the same there. Keep CBQRI_VERSION
+ *   beside a saved state: any other version may ask for other lengths, and then
+ *   refuses it (1 or 2), or read the same bytes otherwise. CHANGELOG.md says so.
  *
  * Every function returns 0, or the number of a refusal (below). A refused call
  * has changed nothing, and the number it hands back is 0.
@@ -68,7 +68,8 @@
  * answers as its bus does: by an access fault of the hart, or, as the example
  * does, by reading 0 and dropping the write. 6 does not come up if the emulator
  * passes on no more bytes of a value than the access has. Any other refusal is
- * a fault of the emulator.
+ * a fault of the emulator; it is also the emulator that keeps an RCID and MCID
+ * of its guest below NR and NM (7).
  *
  *
  * SET-UP

@@ -185,7 +185,7 @@ impl Bandwidth {
         Ok(controller)
     }
 
-    /// Record and tables, to be saved or looked at.
+    /// Record and tables, to be saved (with [`crate::VERSION`]) or looked at.
     #[must_use]
     pub fn buffers(&self) -> &BandwidthBuffers {
         &self.buffers

@@ -133,7 +133,7 @@ impl Capacity {
         Ok(controller)
     }
 
-    /// Record and tables, to be saved or looked at.
+    /// Record and tables, to be saved (with [`crate::VERSION`]) or looked at.
     #[must_use]
     pub fn buffers(&self) -> &CapacityBuffers {
         &self.buffers

@@ -62,6 +62,11 @@ pub use parts::{Counter, Setting};
 
 use std::fmt;
 
+/// The version of this crate and of the library. Keep it beside saved buffers:
+/// they are taken, with the same meaning, by every version with the same major
+/// number and, while that is 0, the same minor number.
+pub const VERSION: &str = env!("CARGO_PKG_VERSION");
+
 /// Why a call was refused, in the order in which it is checked. A refused call
 /// has changed nothing.
 ///
