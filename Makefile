@@ -37,7 +37,7 @@ firmware-run:
 
 # make dist: target/dist/dipperchest-VERSION.tar.gz, all that is used without the kit, after make test
 dist: target/listing
-	@$(MAKE) --no-print-directory -C firmware >/dev/null
+	@$(MAKE) --no-print-directory -C firmware > target/dist.log 2>&1 || { cat target/dist.log; exit 1; }
 	@dist/archive
 
 # make install, make uninstall: header, library, pkg-config file and listing below PREFIX=/usr/local, after make test
