@@ -2,19 +2,19 @@
  * Benchmark: the library beside plain.c and tuned.c, in one run on the same
  * inputs. "bytes" are its functions on bytes, "core" those on words: they make
  * the same call without first decoding the tables into room on the stack.
- * Every call reads all tables (check 3), so "read all" is the lower bound: the
- * time to read record and tables once, adding up their words.
+ * Every call reads all tables (check 3); "read all" is for scale: the time of a
+ * loop that adds up all words of record and tables.
  *
  * plain.c and tuned.c are compiled by gcc and, with -DWITH_CLANG, by clang
  * too, both with -O3 for baseline x86-64; the better one counts and is named.
- * Each number is the median of several repetitions, in which the versions take
- * turns; a ratio is the median of the ratios within each repetition. All
- * versions must give the same answers and leave the same bytes.
+ * Each number is the least of several repetitions, in which the versions take
+ * turns; a ratio is that of the two numbers printed beside it. All versions
+ * must give the same answers and leave the same bytes.
  *
  *     bench [repetitions] [milliseconds for each]
  */
 #define _POSIX_C_SOURCE 200809L
-#include "median.h"
+#include "fastest.h"
 #include "words.h"
 
 #include <inttypes.h>
@@ -238,7 +238,7 @@ static const struct measured {
 };
 enum { MEASURED = sizeof measured / sizeof measured[0] };
 
-/* The lower bound */
+/* For scale */
 
 /* Four sums side by side, so that adding does not hold up reading. */
 static uint64_t sum_words(const void *table, size_t length)
@@ -316,7 +316,6 @@ static uint64_t calibrate(const struct measured *m, double milliseconds)
 struct row {
     double ns[VERSIONS], reading;
     int best[GROUPS];
-    double to[GROUPS], core_to[GROUPS]; /* the library's time to the best of the group */
 };
 
 static void check_same(uint64_t sum, uint64_t *first_sum, int first, const char *name)
@@ -348,42 +347,51 @@ static void take_times(const struct measured *m, int repetitions, double millise
 
 static struct row measure(const struct measured *m, int repetitions, double milliseconds)
 {
-    struct row row = {.to = {0}};
+    struct row row = {.best = {BYTES, CORE, PLAIN, TUNED}};
     take_times(m, repetitions, milliseconds);
     for (int v = 0; v < VERSIONS; v++) {
-        enum group g = versions[v].group;
-        double to = ratio(times[BYTES], times[v], repetitions);
-        row.ns[v] = median(times[v], repetitions);
-        if (to > row.to[g]) {
-            row.to[g] = to;
-            row.core_to[g] = ratio(times[CORE], times[v], repetitions);
-            row.best[g] = v;
-        }
+        int *best = &row.best[versions[v].group];
+        row.ns[v] = fastest(times[v], repetitions);
+        if (row.ns[v] < row.ns[*best])
+            *best = v;
     }
-    row.reading = median(times[VERSIONS], repetitions);
+    row.reading = fastest(times[VERSIONS], repetitions);
     return row;
 }
 
 /* The table */
 
-static void print_head(void)
+static void print_head(int repetitions, double milliseconds)
 {
-    printf("%105s %15s\n", "bytes", "core");
-    printf("%-19s %-7s %4s %-6s %8s %8s %8s %-5s %8s %-5s %8s %8s %7s %7s %7s\n", "call", "pairs",
-           "NM", "state", "bytes", "core", "plain", "", "tuned", "", "read all", "/plain", "/tuned",
-           "/plain", "/tuned");
+    printf("ns of processor time for a call, LOWER IS BETTER; least of %d repetitions of about"
+           " %.0f ms\n"
+           "  bytes, core    the library, by its functions on bytes and on words\n"
+           "  plain, tuned   the same calls in C, straightforward and tuned by hand, -O3 for\n"
+           "                 baseline x86-64, the better one of %s\n"
+           "  read all       for scale: a loop that adds up the words of record and tables, all of\n"
+           "                 which a call must look at\n"
+           "  ratios         the library's time to that of the C: below 1 it is the faster one\n"
+           "  state          mixed: most pairs set; reset: after a reset\n"
+           "  window end     each one finds what the one before left: after the first both tables\n"
+           "                 of settings are equal, so that the next take less time\n\n",
+           repetitions, milliseconds, VERSIONS > 4 ? "gcc and clang" : "gcc alone");
+    printf("%-19s %-7s %4s %-6s %8s %8s %8s %-5s %8s %-5s %8s %11s %11s %10s %10s\n", "call",
+           "pairs", "NM", "state", "bytes", "core", "plain", "", "tuned", "", "read all",
+           "bytes/plain", "bytes/tuned", "core/plain", "core/tuned");
 }
 
 static void print_row(const struct measured *m, const struct setup *s, const char *state,
                       const struct row *row)
 {
     int plain = row->best[PLAIN], tuned = row->best[TUNED];
+    const double *ns = row->ns;
     char pairs[16];
     snprintf(pairs, sizeof pairs, "%" PRIu64 " x %" PRIu64, s->nr, s->na);
-    printf("%-19s %-7s %4" PRIu64 " %-6s %8.1f %8.1f %8.1f %-5s %8.1f %-5s %8.1f %8.2f %7.2f %7.2f"
-           " %7.2f\n", m->name, pairs, s->nm, state, row->ns[BYTES], row->ns[CORE], row->ns[plain],
-           versions[plain].f.name, row->ns[tuned], versions[tuned].f.name, row->reading,
-           row->to[PLAIN], row->to[TUNED], row->core_to[PLAIN], row->core_to[TUNED]);
+    printf("%-19s %-7s %4" PRIu64 " %-6s %8.1f %8.1f %8.1f %-5s %8.1f %-5s %8.1f %11.2f %11.2f %10.2f"
+           " %10.2f\n", m->name, pairs, s->nm, state, ns[BYTES], ns[CORE], ns[plain],
+           versions[plain].f.name, ns[tuned], versions[tuned].f.name, row->reading,
+           ns[BYTES] / ns[plain], ns[BYTES] / ns[tuned], ns[CORE] / ns[plain],
+           ns[CORE] / ns[tuned]);
     fflush(stdout);
 }
 
@@ -399,7 +407,8 @@ static double bench_state(const struct setup *s, int mixed, int repetitions, dou
     for (int i = 0; i < MEASURED; i++) {
         struct row row = measure(&measured[i], repetitions, milliseconds);
         print_row(&measured[i], s, mixed ? "mixed" : "reset", &row);
-        worst = row.to[PLAIN] > worst ? row.to[PLAIN] : worst;
+        double here = row.ns[BYTES] / row.ns[row.best[PLAIN]];
+        worst = here > worst ? here : worst;
     }
     return worst;
 }
@@ -411,17 +420,13 @@ int main(int argc, char **argv)
     double milliseconds = argc > 2 ? atof(argv[2]) : 20, worst = 0;
     if (repetitions < 1 || repetitions > MOST_REPETITIONS || milliseconds <= 0)
         return 2;
-    printf("ns of processor time per call, median of %d repetitions of about %.0f ms\n"
-           "(window end works on its own result)\n", repetitions, milliseconds);
-    printf("plain.c and tuned.c: -O3 for baseline x86-64, the better one of %s\n",
-           VERSIONS > 4 ? "gcc and clang" : "gcc alone");
-    print_head();
+    print_head(repetitions, milliseconds);
     for (int i = 0; i < 3; i++) {
         for (int mixed = 1; mixed >= 0; mixed--) {
             double here = bench_state(&setups[i], mixed, repetitions, milliseconds);
             worst = here > worst ? here : worst;
         }
     }
-    printf("worst ratio %.2f\n", worst);
+    printf("the worst bytes/plain is %.2f\n", worst);
     return 0;
 }

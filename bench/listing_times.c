@@ -1,16 +1,17 @@
 /*
  * The proved listing program beside the plain one, on the same file, output
- * thrown away: processor time of each (user and system), median of several
- * repetitions in which the programs take turns. The better compiler's program
- * counts and is named.
+ * thrown away: processor time of each (user and system) for a line, the least
+ * of several repetitions in which the programs take turns. The better
+ * compiler's program counts and is named.
  *
  *     listing_times FILE LABEL PROVED COMPILER PROGRAM [COMPILER PROGRAM]
  */
 #define _DEFAULT_SOURCE
-#include "median.h"
+#include "fastest.h"
 
 #include <fcntl.h>
 #include <stdio.h>
+#include <stdlib.h>
 #include <sys/resource.h>
 #include <sys/wait.h>
 #include <unistd.h>
@@ -74,18 +75,19 @@ static double count_lines(const char *file)
 int main(int argc, char **argv)
 {
     static double times[MOST_PROGRAMS][REPETITIONS];
+    double taken[MOST_PROGRAMS];
     int programs = (argc - 2) / 2, best = 1;
     if (argc % 2 || programs < 2 || programs > MOST_PROGRAMS)
         return 2;
     for (int r = -1; r < REPETITIONS; r++) /* the first one warms up */
         for (int p = 0; p < programs; p++)
             times[p][r < 0 ? 0 : r] = run(argv[3 + 2 * p], argv[1]);
-    for (int p = 2; p < programs; p++)
-        if (ratio(times[0], times[p], REPETITIONS) > ratio(times[0], times[best], REPETITIONS))
-            best = p;
-    double lines = count_lines(argv[1]);
-    printf("listing: %.0f lines/s proved, %.0f lines/s plain C (%s), ratio %.2f (%s)\n",
-           lines / median(times[0], REPETITIONS), lines / median(times[best], REPETITIONS),
-           argv[2 + 2 * best], ratio(times[0], times[best], REPETITIONS), argv[2]);
+    for (int p = 0; p < programs; p++) {
+        taken[p] = fastest(times[p], REPETITIONS) * 1e9 / count_lines(argv[1]);
+        best = p > 1 && taken[p] < taken[best] ? p : best;
+    }
+    printf("listing, %s pairs: %.0f ns a line proved, %.0f ns plain C (%s), proved/plain %.2f; lower is"
+           " better\n", argv[2], taken[0], taken[best], argv[2 + 2 * best],
+           taken[0] / taken[best]);
     return 0;
 }

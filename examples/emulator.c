@@ -18,19 +18,13 @@
 enum { NR = 4, NA = 2, NM = 4, W = 24 };
 enum { NBWBLKS = 100, MRBWB = 80, Q = 64, NCBLKS = 40 };
 
-static uint8_t bw_record[CBQRI_BANDWIDTH_RECORD_LEN], bw_active[CBQRI_SETTINGS_LEN(NR, NA)],
-    bw_configured[CBQRI_SETTINGS_LEN(NR, NA)], bw_used[CBQRI_SETTINGS_LEN(NR, NA)],
-    bw_counters[CBQRI_COUNTERS_LEN(NM)], bw_events[CBQRI_EVENTS_LEN(NM)];
-#define BW                                                                                \
-    bw_record, sizeof bw_record, bw_active, sizeof bw_active, bw_configured,              \
-        sizeof bw_configured, bw_used, sizeof bw_used, bw_counters, sizeof bw_counters,   \
-        bw_events, sizeof bw_events
-
-static uint8_t cc_record[CBQRI_CAPACITY_RECORD_LEN], cc_masks[CBQRI_MASKS_LEN(NR, NA)],
-    cc_counters[CBQRI_COUNTERS_LEN(NM)], cc_events[CBQRI_EVENTS_LEN(NM)];
-#define CC                                                                                \
-    cc_record, sizeof cc_record, cc_masks, sizeof cc_masks, cc_counters,                  \
-        sizeof cc_counters, cc_events, sizeof cc_events
+static const struct cbqri_bw_setup bw_setup = {
+    .nbwblks = NBWBLKS, .mrbwb = MRBWB, .nr = NR, .na = NA, .nm = NM, .q = Q, .w = W};
+static const struct cbqri_cc_setup cc_setup = {
+    .ncblks = NCBLKS, .nr = NR, .na = NA, .nm = NM, .w = W};
+static uint8_t bw_bytes[CBQRI_BW_LEN(NR, NA, NM)], cc_bytes[CBQRI_CC_LEN(NR, NA, NM)];
+static struct cbqri_bw bw; /* views of these bytes, made by main */
+static struct cbqri_cc cc;
 
 /* A refusal here is a fault of the emulator, not of the driver. */
 static void must(uint64_t refusal, const char *what)
@@ -61,9 +55,9 @@ static uint64_t mmio_read(uint64_t address, uint64_t size)
 {
     uint64_t value = 0, refusal = CBQRI_REFUSED_OFFSET;
     if (address - BW_BASE < PAGE)
-        refusal = cbqri_bandwidth_read(BW, size, address - BW_BASE, &value);
+        refusal = cbqri_bw_read(&bw, size, address - BW_BASE, &value);
     else if (address - CC_BASE < PAGE)
-        refusal = cbqri_capacity_read(CC, size, address - CC_BASE, &value);
+        refusal = cbqri_cc_read(&cc, size, address - CC_BASE, &value);
     bus_fault(refusal, address);
     return value;
 }
@@ -72,9 +66,9 @@ static void mmio_write(uint64_t address, uint64_t size, uint64_t value)
 {
     uint64_t refusal = CBQRI_REFUSED_OFFSET;
     if (address - BW_BASE < PAGE)
-        refusal = cbqri_bandwidth_write(BW, size, address - BW_BASE, value);
+        refusal = cbqri_bw_write(&bw, size, address - BW_BASE, value);
     else if (address - CC_BASE < PAGE)
-        refusal = cbqri_capacity_write(CC, size, address - CC_BASE, value);
+        refusal = cbqri_cc_write(&cc, size, address - CC_BASE, value);
     bus_fault(refusal, address);
 }
 
@@ -83,7 +77,7 @@ static void mmio_write(uint64_t address, uint64_t size, uint64_t value)
 static void request(uint64_t rcid, uint64_t mcid, uint64_t at, int write, uint32_t bytes)
 {
     uint64_t granted;
-    must(cbqri_bandwidth_request(BW, rcid, mcid, at, (uint64_t)write, bytes, &granted), "request");
+    must(cbqri_bw_request(&bw, rcid, mcid, at, (uint64_t)write, bytes, &granted), "request");
     printf("  RCID %" PRIu64 " AT %" PRIu64 " MCID %" PRIu64 " %s %4" PRIu32 ": %4" PRIu64
            " granted\n", rcid, at, mcid, write ? "writes" : "reads ", bytes, granted);
 }
@@ -91,14 +85,14 @@ static void request(uint64_t rcid, uint64_t mcid, uint64_t at, int write, uint32
 static void fill(uint64_t rcid, uint64_t mcid, uint64_t at, uint64_t block)
 {
     uint64_t allowed;
-    must(cbqri_capacity_fill(CC, rcid, mcid, at, block, &allowed), "fill");
+    must(cbqri_cc_fill(&cc, rcid, mcid, at, block, &allowed), "fill");
     printf("  RCID %" PRIu64 " AT %" PRIu64 " MCID %" PRIu64 " fills block %2" PRIu64 ": %s\n",
            rcid, at, mcid, block, allowed ? "allowed" : "not allowed");
 }
 
 static void evict(uint64_t rcid, uint64_t mcid, uint64_t at, uint64_t block)
 {
-    must(cbqri_capacity_evict(CC, rcid, mcid, at, block), "evict");
+    must(cbqri_cc_evict(&cc, rcid, mcid, at, block), "evict");
     printf("  RCID %" PRIu64 " AT %" PRIu64 " MCID %" PRIu64 " empties block %" PRIu64 "\n", rcid,
            at, mcid, block);
 }
@@ -117,19 +111,19 @@ static void end_window(int window)
     uint64_t reserved = 0;
     printf("window %d ends; in force were\n", window);
     for (unsigned pair = 0; pair < NR * NA; pair++) {
-        uint64_t setting = word_at(bw_active + 4 * pair, 4), rbwb = setting & 0xffff;
+        uint64_t setting = word_at(bw.active + 4 * pair, 4), rbwb = setting & 0xffff;
         if (setting >> 31)
             printf("  RCID %u AT %u: shares AT %u\n", pair / NA, pair % NA,
                    (unsigned)(setting >> 28 & 7));
         else if (setting)
             printf("  RCID %u AT %u: reservation %4" PRIu64 ", used %4" PRIu64 ", Mweight %" PRIu64
-                   "\n", pair / NA, pair % NA, rbwb * Q, word_at(bw_used + 4 * pair, 4),
+                   "\n", pair / NA, pair % NA, rbwb * Q, word_at(bw.used + 4 * pair, 4),
                    setting >> 20 & 0xff);
         reserved += rbwb;
     }
     printf("  pool: %" PRIu64 ", gave %" PRIu64 "\n\n", (NBWBLKS - reserved) * Q,
-           word_at(bw_record + 88, 8));
-    must(cbqri_bandwidth_end_window(BW), "window end");
+           word_at(bw.record + 88, 8));
+    must(cbqri_bw_end_window(&bw), "window end");
 }
 
 /* ---- The driver: it knows base addresses and registers only ---- */
@@ -169,11 +163,12 @@ static void driver_counter(uint64_t base, uint64_t mcid)
 
 static void driver_probe(void)
 {
-    uint64_t bw = mmio_read(BW_BASE + CBQRI_CAPABILITIES, 8);
-    uint64_t cc = mmio_read(CC_BASE + CBQRI_CAPABILITIES, 8);
+    uint64_t bandwidth = mmio_read(BW_BASE + CBQRI_CAPABILITIES, 8);
+    uint64_t capacity = mmio_read(CC_BASE + CBQRI_CAPABILITIES, 8);
     printf("driver: bandwidth VER %" PRIu64 " NBWBLKS %" PRIu64 " MRBWB %" PRIu64
-           ", capacity VER %" PRIu64 " NCBLKS %" PRIu64 "\n\n", bw & 0xff, bw >> 8 & 0xffff,
-           bw >> 32 & 0xffff, cc & 0xff, cc >> 8 & 0xffff);
+           ", capacity VER %" PRIu64 " NCBLKS %" PRIu64 "\n\n", bandwidth & 0xff,
+           bandwidth >> 8 & 0xffff, bandwidth >> 32 & 0xffff, capacity & 0xff,
+           capacity >> 8 & 0xffff);
 }
 
 /* ---- The story ---- */
@@ -239,8 +234,10 @@ static void capacity_story(void)
 
 int main(void)
 {
-    must(cbqri_bandwidth_reset(NBWBLKS, MRBWB, NR, NA, NM, Q, W, BW), "reset");
-    must(cbqri_capacity_reset(NCBLKS, NR, NA, NM, W, CC), "reset");
+    bw = cbqri_bw_view(bw_bytes, NR, NA, NM);
+    cc = cbqri_cc_view(cc_bytes, NR, NA, NM);
+    must(cbqri_bw_reset(&bw, &bw_setup), "reset");
+    must(cbqri_cc_reset(&cc, &cc_setup), "reset");
     driver_probe();
     bandwidth_story();
     capacity_story();

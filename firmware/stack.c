@@ -1,7 +1,8 @@
 /*
- * The stack that each entry point uses, measured on the bare board: the stack
- * is painted, the entry point called, and the lowest byte that lost its paint
- * looked for. What a caller keeps on the stack, arguments too, is not counted.
+ * The stack that each entry point uses, measured on the bare board or under
+ * Linux on x86-64: the stack is painted, the entry point called, and the lowest
+ * byte that lost its paint looked for. What a caller keeps on the stack,
+ * arguments too, is not counted.
  */
 #include "../bench/interface.h"
 
@@ -13,10 +14,21 @@
 /* ---- Paint ---- */
 
 static const uint64_t paint = UINT64_C(0xc5c5c5c5c5c5c5c5);
-extern uint64_t stack_bottom[];
 static uint64_t *stack_at_call;
 
+#ifdef __riscv
+extern uint64_t stack_bottom[];
 #define STACK_POINTER(pointer) __asm__ volatile("mv %0, sp" : "=r"(pointer))
+#define FIND_BOTTOM()
+#else
+static uint64_t *stack_bottom;
+#define STACK_POINTER(pointer) __asm__ volatile("mov %%rsp, %0" : "=r"(pointer))
+#define FIND_BOTTOM()                                                                     \
+    do {                                                                                  \
+        STACK_POINTER(stack_bottom);                                                      \
+        stack_bottom -= 1 << 13; /* 64 KiB */                                             \
+    } while (0)
+#endif
 
 __attribute__((noinline)) static void paint_stack(void)
 {
@@ -106,6 +118,7 @@ static uint64_t most_used(uint64_t (*call)(void), int size)
 
 int main(void)
 {
+    FIND_BOTTOM();
     printf("entry point, stack at 128 pairs and 64 MCIDs, stack at 2048 pairs and 256 MCIDs\n");
     for (unsigned i = 0; i < sizeof entries / sizeof entries[0]; i++)
         printf("%s %" PRIu64 " %" PRIu64 "\n", entries[i].name, most_used(entries[i].call, FEW),

@@ -11,6 +11,8 @@ _start:
     la sp, stack_top
     la t0, trap
     csrw mtvec, t0
+    li t0, 0x2200               # mstatus.FS and VS: floats and vectors, where the hart has them
+    csrs mstatus, t0
     la t0, bss_start
     la t1, bss_end
 1:  bgeu t0, t1, 2f

@@ -14,35 +14,31 @@
  *
  * The library keeps nothing of its own. A controller is a small record and a
  * few tables in buffers that you own and lend to each call. Set the buffers up
- * with a reset, then hand the same buffers to every later call. Buffers may be
- * saved and restored like any bytes; every call but a reset checks them whole.
+ * with a reset, then hand the same buffers to every later call. Every call but
+ * a reset checks them whole (docs/COST.md says what that costs).
+ *
+ * A function takes each buffer as a pointer and a length. A view (struct
+ * cbqri_bw, struct cbqri_cc) has them all, and an inline function for each call
+ * takes the view; it is the shorter way:
  *
  *     #include <cbqri.h>
  *     #include <stdint.h>
  *
- *     enum { NR = 4, NA = 2, NM = 4 };
- *     static uint8_t record[CBQRI_BANDWIDTH_RECORD_LEN];
- *     static uint8_t active[CBQRI_SETTINGS_LEN(NR, NA)];
- *     static uint8_t configured[CBQRI_SETTINGS_LEN(NR, NA)];
- *     static uint8_t used[CBQRI_SETTINGS_LEN(NR, NA)];
- *     static uint8_t counters[CBQRI_COUNTERS_LEN(NM)];
- *     static uint8_t events[CBQRI_EVENTS_LEN(NM)];
- *     #define BW record, sizeof record, active, sizeof active,          \
- *             configured, sizeof configured, used, sizeof used,         \
- *             counters, sizeof counters, events, sizeof events
+ *     static const struct cbqri_bw_setup setup = {
+ *         .nbwblks = 100, .mrbwb = 80, .nr = 4, .na = 2, .nm = 4, .q = 64, .w = 24};
+ *     static uint8_t bytes[CBQRI_BW_LEN(4, 2, 4)];
+ *     struct cbqri_bw bw = cbqri_bw_view(bytes, setup.nr, setup.na, setup.nm);
  *
  *     uint64_t ctl, granted;
- *     // NBWBLKS 100, MRBWB 80, Q 64 bytes for a block, W 24 bits
- *     cbqri_bandwidth_reset(100, 80, NR, NA, NM, 64, 24, BW);
+ *     cbqri_bw_reset(&bw, &setup);
  *     // RCID 0, AT 0 down from 80 blocks to 30
- *     cbqri_bandwidth_write(BW, 8, CBQRI_BW_ALLOC, cbqri_holder(30, 1));
- *     cbqri_bandwidth_write(BW, 8, CBQRI_ALLOC_CTL,
- *                           cbqri_alloc_ctl(CBQRI_CONFIG_LIMIT, 0, 0));
- *     cbqri_bandwidth_read(BW, 8, CBQRI_ALLOC_CTL, &ctl);
+ *     cbqri_bw_write(&bw, 8, CBQRI_BW_ALLOC, cbqri_holder(30, 1));
+ *     cbqri_bw_write(&bw, 8, CBQRI_ALLOC_CTL, cbqri_alloc_ctl(CBQRI_CONFIG_LIMIT, 0, 0));
+ *     cbqri_bw_read(&bw, 8, CBQRI_ALLOC_CTL, &ctl);
  *     // ctl is 0x0000000100000001, so cbqri_status(ctl) is CBQRI_STATUS_OK
- *     cbqri_bandwidth_end_window(BW);
+ *     cbqri_bw_end_window(&bw);
  *     // 30 blocks of 64 bytes reserved: all 1,000 bytes are granted
- *     cbqri_bandwidth_request(BW, 0, 0, 0, 0, 1000, &granted);
+ *     cbqri_bw_request(&bw, 0, 0, 0, 0, 1000, &granted);
  *
  * Rules for the buffers:
  *
@@ -53,11 +49,27 @@
  * - Record, tables and the number that a call hands back must not overlap one
  *   another, and no pointer may be NULL.
  * - Calls on buffers that have no byte in common may run at the same time.
+ *   Reads (cbqri_bandwidth_read, cbqri_capacity_read) of the same buffers may
+ *   run at the same time too: a read writes nothing but *value. Any other call
+ *   must have its buffers for itself.
+ * - Buffers may be saved and restored like any bytes. A state that one version
+ *   saved is taken by every version with the same major number and, while that
+ *   is 0, the same minor number, and means the same there. Keep CBQRI_VERSION
+ *   beside a saved state: any other version may ask for other lengths, and then
+ *   refuses it (1 or 2), or read the same bytes otherwise. CHANGELOG.md says so.
  *
  * Every function returns 0, or the number of a refusal (below). A refused call
- * has changed nothing, and the number it hands back is 0. Refusals are about
- * the caller: what a driver does wrong shows in STATUS, and the call that
- * carried its write returns 0.
+ * has changed nothing, and the number it hands back is 0.
+ *
+ * Refusals are about the caller: what a driver asks of a register shows in
+ * STATUS, and the call that carried its write returns 0. Two of them a driver
+ * can bring about all the same, by an access of a wrong size (4) or at a wrong
+ * place (5). CBQRI leaves open what such an access does, so the emulator
+ * answers as its bus does: by an access fault of the hart, or, as the example
+ * does, by reading 0 and dropping the write. 6 does not come up if the emulator
+ * passes on no more bytes of a value than the access has. Any other refusal is
+ * a fault of the emulator; it is also the emulator that keeps an RCID and MCID
+ * of its guest below NR and NM (7).
  *
  *
  * SET-UP
@@ -145,6 +157,15 @@
 
 #include <stddef.h>
 #include <stdint.h>
+
+/* The version of this header and of the library beside it (CHANGELOG.md).
+ * CBQRI_VERSION is one number, to be compared: 2003 for 0.2.3. */
+#define CBQRI_VERSION_MAJOR 0
+#define CBQRI_VERSION_MINOR 2
+#define CBQRI_VERSION_PATCH 0
+#define CBQRI_VERSION_STRING "0.2.0"
+#define CBQRI_VERSION                                                                     \
+    (CBQRI_VERSION_MAJOR * 1000000 + CBQRI_VERSION_MINOR * 1000 + CBQRI_VERSION_PATCH)
 
 #ifdef __cplusplus
 extern "C" {
@@ -329,6 +350,77 @@ uint64_t cbqri_bandwidth_end_window(uint8_t *record, size_t record_len,
                                     uint8_t *counters, size_t counters_len,
                                     uint8_t *events, size_t events_len);
 
+/* ---- The same on a view ---- */
+
+/* Record and tables of a bandwidth controller. */
+struct cbqri_bw {
+    uint8_t *record, *active, *configured, *used, *counters, *events;
+    size_t record_len, active_len, configured_len, used_len, counters_len, events_len;
+};
+
+struct cbqri_bw_setup {
+    uint64_t nbwblks, mrbwb, nr, na, nm, q, w;
+};
+
+/* Bytes of record and tables together. */
+#define CBQRI_BW_LEN(nr, na, nm)                                                          \
+    (CBQRI_BANDWIDTH_RECORD_LEN + 3 * CBQRI_SETTINGS_LEN(nr, na) + CBQRI_COUNTERS_LEN(nm) + \
+     CBQRI_EVENTS_LEN(nm))
+
+/* A view of CBQRI_BW_LEN(nr, na, nm) bytes: the record and then the tables, in
+ * the order of the arguments above. */
+static inline struct cbqri_bw cbqri_bw_view(uint8_t *bytes, uint64_t nr, uint64_t na, uint64_t nm)
+{
+    struct cbqri_bw c;
+    c.record_len = CBQRI_BANDWIDTH_RECORD_LEN;
+    c.active_len = c.configured_len = c.used_len = CBQRI_SETTINGS_LEN(nr, na);
+    c.counters_len = CBQRI_COUNTERS_LEN(nm);
+    c.events_len = CBQRI_EVENTS_LEN(nm);
+    c.record = bytes;
+    c.active = c.record + c.record_len;
+    c.configured = c.active + c.active_len;
+    c.used = c.configured + c.configured_len;
+    c.counters = c.used + c.used_len;
+    c.events = c.counters + c.counters_len;
+    return c;
+}
+
+/* The buffers as arguments of the functions above. */
+#define CBQRI_BW_BUFFERS(c)                                                               \
+    (c)->record, (c)->record_len, (c)->active, (c)->active_len, (c)->configured,          \
+        (c)->configured_len, (c)->used, (c)->used_len, (c)->counters, (c)->counters_len,  \
+        (c)->events, (c)->events_len
+
+static inline uint64_t cbqri_bw_reset(const struct cbqri_bw *c, const struct cbqri_bw_setup *s)
+{
+    return cbqri_bandwidth_reset(s->nbwblks, s->mrbwb, s->nr, s->na, s->nm, s->q, s->w,
+                                 CBQRI_BW_BUFFERS(c));
+}
+
+static inline uint64_t cbqri_bw_read(const struct cbqri_bw *c, uint64_t size, uint64_t offset,
+                                     uint64_t *value)
+{
+    return cbqri_bandwidth_read(CBQRI_BW_BUFFERS(c), size, offset, value);
+}
+
+static inline uint64_t cbqri_bw_write(const struct cbqri_bw *c, uint64_t size, uint64_t offset,
+                                      uint64_t value)
+{
+    return cbqri_bandwidth_write(CBQRI_BW_BUFFERS(c), size, offset, value);
+}
+
+static inline uint64_t cbqri_bw_request(const struct cbqri_bw *c, uint64_t rcid, uint64_t mcid,
+                                        uint64_t at, uint64_t kind, uint32_t bytes,
+                                        uint64_t *granted)
+{
+    return cbqri_bandwidth_request(CBQRI_BW_BUFFERS(c), rcid, mcid, at, kind, bytes, granted);
+}
+
+static inline uint64_t cbqri_bw_end_window(const struct cbqri_bw *c)
+{
+    return cbqri_bandwidth_end_window(CBQRI_BW_BUFFERS(c));
+}
+
 /* ------------------------------------------------------------------------
  * The capacity controller
  *
@@ -381,6 +473,73 @@ uint64_t cbqri_capacity_evict(uint8_t *record, size_t record_len,
                               uint8_t *events, size_t events_len,
                               uint64_t rcid, uint64_t mcid, uint64_t at, uint64_t block);
 
+/* ---- The same on a view ---- */
+
+/* Record and tables of a capacity controller. */
+struct cbqri_cc {
+    uint8_t *record, *masks, *counters, *events;
+    size_t record_len, masks_len, counters_len, events_len;
+};
+
+struct cbqri_cc_setup {
+    uint64_t ncblks, nr, na, nm, w;
+};
+
+/* Bytes of record and tables together. */
+#define CBQRI_CC_LEN(nr, na, nm)                                                          \
+    (CBQRI_CAPACITY_RECORD_LEN + CBQRI_MASKS_LEN(nr, na) + CBQRI_COUNTERS_LEN(nm) +       \
+     CBQRI_EVENTS_LEN(nm))
+
+/* A view of CBQRI_CC_LEN(nr, na, nm) bytes: the record and then the tables, in
+ * the order of the arguments above. */
+static inline struct cbqri_cc cbqri_cc_view(uint8_t *bytes, uint64_t nr, uint64_t na, uint64_t nm)
+{
+    struct cbqri_cc c;
+    c.record_len = CBQRI_CAPACITY_RECORD_LEN;
+    c.masks_len = CBQRI_MASKS_LEN(nr, na);
+    c.counters_len = CBQRI_COUNTERS_LEN(nm);
+    c.events_len = CBQRI_EVENTS_LEN(nm);
+    c.record = bytes;
+    c.masks = c.record + c.record_len;
+    c.counters = c.masks + c.masks_len;
+    c.events = c.counters + c.counters_len;
+    return c;
+}
+
+/* The buffers as arguments of the functions above. */
+#define CBQRI_CC_BUFFERS(c)                                                               \
+    (c)->record, (c)->record_len, (c)->masks, (c)->masks_len, (c)->counters,              \
+        (c)->counters_len, (c)->events, (c)->events_len
+
+static inline uint64_t cbqri_cc_reset(const struct cbqri_cc *c, const struct cbqri_cc_setup *s)
+{
+    return cbqri_capacity_reset(s->ncblks, s->nr, s->na, s->nm, s->w, CBQRI_CC_BUFFERS(c));
+}
+
+static inline uint64_t cbqri_cc_read(const struct cbqri_cc *c, uint64_t size, uint64_t offset,
+                                     uint64_t *value)
+{
+    return cbqri_capacity_read(CBQRI_CC_BUFFERS(c), size, offset, value);
+}
+
+static inline uint64_t cbqri_cc_write(const struct cbqri_cc *c, uint64_t size, uint64_t offset,
+                                      uint64_t value)
+{
+    return cbqri_capacity_write(CBQRI_CC_BUFFERS(c), size, offset, value);
+}
+
+static inline uint64_t cbqri_cc_fill(const struct cbqri_cc *c, uint64_t rcid, uint64_t mcid,
+                                     uint64_t at, uint64_t block, uint64_t *allowed)
+{
+    return cbqri_capacity_fill(CBQRI_CC_BUFFERS(c), rcid, mcid, at, block, allowed);
+}
+
+static inline uint64_t cbqri_cc_evict(const struct cbqri_cc *c, uint64_t rcid, uint64_t mcid,
+                                      uint64_t at, uint64_t block)
+{
+    return cbqri_capacity_evict(CBQRI_CC_BUFFERS(c), rcid, mcid, at, block);
+}
+
 /* ------------------------------------------------------------------------
  * Both controllers on tables of words
  *
@@ -393,9 +552,9 @@ uint64_t cbqri_capacity_evict(uint8_t *record, size_t record_len,
  *   Refusal 2 is about this count. The record stays little-endian bytes with
  *   its length in bytes.
  * - A table that a call never changes is const.
- * - A call takes about 1 KB of stack on rv64. The functions on bytes take 28 KB
- *   (bandwidth) and 20 KB (capacity), whatever the set-up, because they decode
- *   the tables there, and take about 1.2 to 2 times as long for it.
+ * - A call takes at most 1,040 bytes of stack. The functions on bytes take up to
+ *   29,440 (bandwidth) and 21,040 (capacity), whatever the set-up, because they
+ *   decode the tables there, and take longer for it (docs/COST.md).
  * Take the functions on bytes where the tables must have the same bytes on
  * every host or may lie at any address, and the stack is large; otherwise
  * these. On a little-endian host both may be called in turn on the same tables.

@@ -1,4 +1,7 @@
-use crate::{ffi, table_len, Refusal};
+use crate::parts::{number, pair, word, ByMcid, ByPair, Flags, Hex};
+use crate::{ffi, registers, table_len, Counter, Refusal, Setting};
+
+use std::fmt;
 
 /// Set-up of a bandwidth controller.
 #[derive(Clone, Copy, Debug, PartialEq, Eq)]
@@ -29,8 +32,9 @@ pub enum Kind {
 }
 
 /// Record and tables of a bandwidth controller as little-endian bytes, in the
-/// layout of `cbqri.h`.
-#[derive(Clone, Debug, PartialEq, Eq)]
+/// layout of `cbqri.h`. `Debug` shows their lengths; see [`Bandwidth`] for what
+/// they say.
+#[derive(Clone, PartialEq, Eq)]
 pub struct BandwidthBuffers {
     /// Set-up, registers and the bytes that the pool gave.
     pub record: Vec<u8>,
@@ -81,14 +85,61 @@ macro_rules! call {
     };
 }
 
-/// A bandwidth controller.
-#[derive(Clone, Debug, PartialEq, Eq)]
+impl fmt::Debug for BandwidthBuffers {
+    fn fmt(&self, f: &mut fmt::Formatter<'_>) -> fmt::Result {
+        f.debug_struct("BandwidthBuffers")
+            .field("record", &self.record.len())
+            .field("active", &self.active.len())
+            .field("configured", &self.configured.len())
+            .field("used", &self.used.len())
+            .field("counters", &self.counters.len())
+            .field("events", &self.events.len())
+            .finish()
+    }
+}
+
+/// A bandwidth controller. `Debug` shows set-up, registers, the settings that
+/// are set and the counters that were used.
+///
+/// ```
+/// use cbqri::{Bandwidth, BandwidthSetup};
+///
+/// let setup = BandwidthSetup { nbwblks: 9, mrbwb: 8, nr: 2, na: 2, nm: 1, q: 1, w: 24 };
+/// let shown = format!("{:?}", Bandwidth::new(setup).unwrap());
+/// assert!(shown.contains("mrbwb: 8"));
+/// assert!(shown.contains("active: {(0, 0): Holder { rbwb: 8, mweight: 1 }, (0, 1): Sharer"));
+/// ```
+#[derive(Clone, PartialEq, Eq)]
 pub struct Bandwidth {
     buffers: BandwidthBuffers,
 }
 
+impl fmt::Debug for Bandwidth {
+    fn fmt(&self, f: &mut fmt::Formatter<'_>) -> fmt::Result {
+        let BandwidthSetup { nr, na, nm, .. } = self.setup();
+        let record = &self.buffers.record;
+        let counter = |mcid| self.counter(mcid);
+        f.debug_struct("Bandwidth")
+            .field("setup", &self.setup())
+            .field("mon_ctl", &Hex(number(record, 7)))
+            .field("mon_ctr_val", &Hex(number(record, 8)))
+            .field("alloc_ctl", &Hex(number(record, 9)))
+            .field("bw_alloc", &Hex(number(record, 10)))
+            .field("pool_gave", &number(record, 11))
+            .field("active", &ByPair { nr, na, get: &|rcid, at| self.active(rcid, at) })
+            .field("configured", &ByPair { nr, na, get: &|rcid, at| self.configured(rcid, at) })
+            .field("used", &ByPair { nr, na, get: &|rcid, at| self.used_of_holder(rcid, at) })
+            .field("counters", &ByMcid { nm, get: &counter })
+            .finish()
+    }
+}
+
 impl Bandwidth {
-    /// A controller after a reset with this set-up. Refusal: `Setup`.
+    /// A controller after a reset with this set-up.
+    ///
+    /// # Errors
+    ///
+    /// [`Refusal::Setup`].
     pub fn new(setup: BandwidthSetup) -> Result<Bandwidth, Refusal> {
         let mut buffers = BandwidthBuffers::new(&setup);
         let s = &setup;
@@ -99,13 +150,21 @@ impl Bandwidth {
 
     /// Resets the controller with this set-up: RCID 0 with AT 0 holds MRBWB
     /// blocks with Mweight 1, its other ATs share AT 0, and nothing else is
-    /// set. Refusal: `Setup`; the controller then stays as it was.
+    /// set.
+    ///
+    /// # Errors
+    ///
+    /// [`Refusal::Setup`]; the controller then stays as it was.
     pub fn reset(&mut self, setup: BandwidthSetup) -> Result<(), Refusal> {
         *self = Bandwidth::new(setup)?;
         Ok(())
     }
 
-    /// A controller from saved buffers. Refusals: `Setup`, `Length`, `Unlawful`.
+    /// A controller from saved buffers.
+    ///
+    /// # Errors
+    ///
+    /// [`Refusal::Setup`], [`Refusal::Length`], [`Refusal::Unlawful`].
     ///
     /// ```
     /// use cbqri::{Bandwidth, BandwidthSetup, Refusal};
@@ -122,16 +181,90 @@ impl Bandwidth {
     /// ```
     pub fn from_buffers(buffers: BandwidthBuffers) -> Result<Bandwidth, Refusal> {
         let controller = Bandwidth { buffers };
-        controller.read(8, crate::registers::CAPABILITIES)?;
+        controller.read(8, registers::CAPABILITIES)?;
         Ok(controller)
     }
 
-    /// Record and tables, to be saved or looked at.
+    /// Record and tables, to be saved (with [`crate::VERSION`]) or looked at.
+    #[must_use]
     pub fn buffers(&self) -> &BandwidthBuffers {
         &self.buffers
     }
 
-    /// A driver's read of `size` bytes at `offset`. Refusals: `Size`, `Offset`.
+    /// The set-up of the last reset.
+    #[must_use]
+    pub fn setup(&self) -> BandwidthSetup {
+        let at = |index| number(&self.buffers.record, index);
+        BandwidthSetup {
+            nbwblks: at(0),
+            mrbwb: at(1),
+            nr: at(2),
+            na: at(3),
+            nm: at(4),
+            q: at(5),
+            w: at(6),
+        }
+    }
+
+    /// The setting in force of a pair; `None` if it was never set, or if there
+    /// is no such pair.
+    #[must_use]
+    pub fn active(&self, rcid: u64, at: u64) -> Option<Setting> {
+        Setting::of(self.word_of_pair(&self.buffers.active, rcid, at)?)
+    }
+
+    /// The setting configured for a pair, which comes into force when the
+    /// window ends; `None` as for [`Bandwidth::active`].
+    ///
+    /// ```
+    /// use cbqri::{registers as reg, Bandwidth, BandwidthSetup, Setting};
+    ///
+    /// # fn main() -> Result<(), cbqri::Refusal> {
+    /// let setup = BandwidthSetup { nbwblks: 100, mrbwb: 80, nr: 4, na: 2, nm: 4, q: 64, w: 24 };
+    /// let mut bw = Bandwidth::new(setup)?;
+    /// bw.write(8, reg::BW_ALLOC, reg::holder(30, 5))?;
+    /// bw.write(8, reg::ALLOC_CTL, reg::alloc_ctl(reg::CONFIG_LIMIT, 0, 0))?;
+    /// assert_eq!(bw.configured(0, 0), Some(Setting::Holder { rbwb: 30, mweight: 5 }));
+    /// assert_eq!(bw.active(0, 0), Some(Setting::Holder { rbwb: 80, mweight: 1 }));
+    /// assert_eq!(bw.active(0, 1), Some(Setting::Sharer { shared_at: 0 }));
+    /// assert_eq!(bw.active(1, 0), None);
+    /// # Ok(())
+    /// # }
+    /// ```
+    #[must_use]
+    pub fn configured(&self, rcid: u64, at: u64) -> Option<Setting> {
+        Setting::of(self.word_of_pair(&self.buffers.configured, rcid, at)?)
+    }
+
+    /// Bytes that a pair used of its reservation in this window; `None` if
+    /// there is no such pair.
+    #[must_use]
+    pub fn used(&self, rcid: u64, at: u64) -> Option<u64> {
+        self.word_of_pair(&self.buffers.used, rcid, at)
+    }
+
+    /// The counter of an MCID; `None` if there is no such MCID.
+    #[must_use]
+    pub fn counter(&self, mcid: u64) -> Option<Counter> {
+        let flags =
+            Flags { invalid: registers::BANDWIDTH_INVALID, overflowed: registers::BANDWIDTH_OVF };
+        Counter::of(&self.buffers.counters, &self.buffers.events, &flags, mcid)
+    }
+
+    fn word_of_pair(&self, table: &[u8], rcid: u64, at: u64) -> Option<u64> {
+        let BandwidthSetup { nr, na, .. } = self.setup();
+        word(table, pair(nr, na, rcid, at)?, 4)
+    }
+
+    fn used_of_holder(&self, rcid: u64, at: u64) -> Option<u64> {
+        self.used(rcid, at).filter(|used| *used > 0)
+    }
+
+    /// A driver's read of `size` bytes at `offset`.
+    ///
+    /// # Errors
+    ///
+    /// [`Refusal::Size`], [`Refusal::Offset`].
     pub fn read(&self, size: u64, offset: u64) -> Result<u64, Refusal> {
         let mut value = 0;
         call!(cbqri_bandwidth_read(; self.buffers, as_ptr; size, offset, &mut value))?;
@@ -139,7 +272,11 @@ impl Bandwidth {
     }
 
     /// A driver's write of `size` bytes at `offset`, with the operation that it
-    /// performs. Refusals: `Size`, `Offset`, `Value`.
+    /// performs.
+    ///
+    /// # Errors
+    ///
+    /// [`Refusal::Size`], [`Refusal::Offset`], [`Refusal::Value`].
     ///
     /// ```
     /// use cbqri::{registers as reg, Bandwidth, BandwidthSetup, Kind, Status};
@@ -162,7 +299,11 @@ impl Bandwidth {
     }
 
     /// A request for so many bytes; the result is how many are granted. An AT
-    /// at or above NA counts as 0. Refusal: `Id`.
+    /// at or above NA counts as 0.
+    ///
+    /// # Errors
+    ///
+    /// [`Refusal::Id`].
     ///
     /// ```
     /// use cbqri::{Bandwidth, BandwidthSetup, Kind, Refusal};
@@ -192,6 +333,10 @@ impl Bandwidth {
 
     /// Ends the window: configured settings come into force, and reservations
     /// and pool are whole again.
+    ///
+    /// # Errors
+    ///
+    /// None: a controller made by this crate is lawful.
     ///
     /// ```
     /// use cbqri::{Bandwidth, BandwidthSetup, Kind};

@@ -1,4 +1,7 @@
-use crate::{ffi, table_len, Refusal};
+use crate::parts::{number, pair, word, ByMcid, ByPair, Flags, Hex};
+use crate::{ffi, registers, table_len, Counter, Refusal};
+
+use std::fmt;
 
 /// Set-up of a capacity controller.
 #[derive(Clone, Copy, Debug, PartialEq, Eq)]
@@ -16,8 +19,9 @@ pub struct CapacitySetup {
 }
 
 /// Record and tables of a capacity controller as little-endian bytes, in the
-/// layout of `cbqri.h`.
-#[derive(Clone, Debug, PartialEq, Eq)]
+/// layout of `cbqri.h`. `Debug` shows their lengths; see [`Capacity`] for what
+/// they say.
+#[derive(Clone, PartialEq, Eq)]
 pub struct CapacityBuffers {
     /// Set-up and registers.
     pub record: Vec<u8>,
@@ -59,14 +63,47 @@ macro_rules! call {
     };
 }
 
-/// A capacity controller.
-#[derive(Clone, Debug, PartialEq, Eq)]
+impl fmt::Debug for CapacityBuffers {
+    fn fmt(&self, f: &mut fmt::Formatter<'_>) -> fmt::Result {
+        f.debug_struct("CapacityBuffers")
+            .field("record", &self.record.len())
+            .field("masks", &self.masks.len())
+            .field("counters", &self.counters.len())
+            .field("events", &self.events.len())
+            .finish()
+    }
+}
+
+/// A capacity controller. `Debug` shows set-up, registers, the masks that are
+/// not 0 and the counters that were used.
+#[derive(Clone, PartialEq, Eq)]
 pub struct Capacity {
     buffers: CapacityBuffers,
 }
 
+impl fmt::Debug for Capacity {
+    fn fmt(&self, f: &mut fmt::Formatter<'_>) -> fmt::Result {
+        let CapacitySetup { nr, na, nm, .. } = self.setup();
+        let record = &self.buffers.record;
+        let set = |rcid, at| self.mask(rcid, at).filter(|mask| *mask != 0).map(Hex);
+        f.debug_struct("Capacity")
+            .field("setup", &self.setup())
+            .field("mon_ctl", &Hex(number(record, 5)))
+            .field("mon_ctr_val", &Hex(number(record, 6)))
+            .field("alloc_ctl", &Hex(number(record, 7)))
+            .field("block_mask", &Hex(number(record, 8)))
+            .field("masks", &ByPair { nr, na, get: &set })
+            .field("counters", &ByMcid { nm, get: &|mcid| self.counter(mcid) })
+            .finish()
+    }
+}
+
 impl Capacity {
-    /// A controller after a reset with this set-up. Refusal: `Setup`.
+    /// A controller after a reset with this set-up.
+    ///
+    /// # Errors
+    ///
+    /// [`Refusal::Setup`].
     pub fn new(setup: CapacitySetup) -> Result<Capacity, Refusal> {
         let mut buffers = CapacityBuffers::new(&setup);
         let s = &setup;
@@ -75,26 +112,68 @@ impl Capacity {
     }
 
     /// Resets the controller with this set-up: RCID 0 has every block for each
-    /// AT, and nothing else is set. Refusal: `Setup`; the controller then stays
-    /// as it was.
+    /// AT, and nothing else is set.
+    ///
+    /// # Errors
+    ///
+    /// [`Refusal::Setup`]; the controller then stays as it was.
     pub fn reset(&mut self, setup: CapacitySetup) -> Result<(), Refusal> {
         *self = Capacity::new(setup)?;
         Ok(())
     }
 
-    /// A controller from saved buffers. Refusals: `Setup`, `Length`, `Unlawful`.
+    /// A controller from saved buffers.
+    ///
+    /// # Errors
+    ///
+    /// [`Refusal::Setup`], [`Refusal::Length`], [`Refusal::Unlawful`].
     pub fn from_buffers(buffers: CapacityBuffers) -> Result<Capacity, Refusal> {
         let controller = Capacity { buffers };
-        controller.read(8, crate::registers::CAPABILITIES)?;
+        controller.read(8, registers::CAPABILITIES)?;
         Ok(controller)
     }
 
-    /// Record and tables, to be saved or looked at.
+    /// Record and tables, to be saved (with [`crate::VERSION`]) or looked at.
+    #[must_use]
     pub fn buffers(&self) -> &CapacityBuffers {
         &self.buffers
     }
 
-    /// A driver's read of `size` bytes at `offset`. Refusals: `Size`, `Offset`.
+    /// The set-up of the last reset.
+    #[must_use]
+    pub fn setup(&self) -> CapacitySetup {
+        let at = |index| number(&self.buffers.record, index);
+        CapacitySetup { ncblks: at(0), nr: at(1), na: at(2), nm: at(3), w: at(4) }
+    }
+
+    /// The block mask of a pair, in force at once; 0 if it was never set, and
+    /// `None` if there is no such pair.
+    ///
+    /// ```
+    /// use cbqri::{Capacity, CapacitySetup};
+    ///
+    /// let cc = Capacity::new(CapacitySetup { ncblks: 4, nr: 2, na: 1, nm: 1, w: 24 }).unwrap();
+    /// assert_eq!((cc.mask(0, 0), cc.mask(1, 0), cc.mask(2, 0)), (Some(0xf), Some(0), None));
+    /// assert!(format!("{cc:?}").contains("masks: {(0, 0): 0x000000000000000f}"));
+    /// ```
+    #[must_use]
+    pub fn mask(&self, rcid: u64, at: u64) -> Option<u64> {
+        let CapacitySetup { nr, na, .. } = self.setup();
+        word(&self.buffers.masks, pair(nr, na, rcid, at)?, 8)
+    }
+
+    /// The counter of an MCID; `None` if there is no such MCID.
+    #[must_use]
+    pub fn counter(&self, mcid: u64) -> Option<Counter> {
+        let flags = Flags { invalid: registers::CAPACITY_INVALID, overflowed: 0 };
+        Counter::of(&self.buffers.counters, &self.buffers.events, &flags, mcid)
+    }
+
+    /// A driver's read of `size` bytes at `offset`.
+    ///
+    /// # Errors
+    ///
+    /// [`Refusal::Size`], [`Refusal::Offset`].
     ///
     /// ```
     /// use cbqri::{registers as reg, Capacity, CapacitySetup};
@@ -110,14 +189,22 @@ impl Capacity {
     }
 
     /// A driver's write of `size` bytes at `offset`, with the operation that it
-    /// performs. Refusals: `Size`, `Offset`, `Value`.
+    /// performs.
+    ///
+    /// # Errors
+    ///
+    /// [`Refusal::Size`], [`Refusal::Offset`], [`Refusal::Value`].
     pub fn write(&mut self, size: u64, offset: u64, value: u64) -> Result<(), Refusal> {
         call!(cbqri_capacity_write(; self.buffers, as_mut_ptr; size, offset, value))
     }
 
     /// The cache wants to fill a block; the result is whether it may. If so, a
     /// matching occupancy counter goes up by 1. An AT at or above NA counts as
-    /// 0. Refusals: `Id`, `Block`.
+    /// 0.
+    ///
+    /// # Errors
+    ///
+    /// [`Refusal::Id`], [`Refusal::Block`].
     ///
     /// ```
     /// use cbqri::{registers as reg, Capacity, CapacitySetup, Status};
@@ -145,7 +232,11 @@ impl Capacity {
     }
 
     /// The cache emptied a block: a matching occupancy counter goes down by 1.
-    /// At 0 it stays and becomes INVALID. Refusals: `Id`, `Block`.
+    /// At 0 it stays and becomes INVALID.
+    ///
+    /// # Errors
+    ///
+    /// [`Refusal::Id`], [`Refusal::Block`].
     ///
     /// ```
     /// use cbqri::{registers as reg, Capacity, CapacitySetup};

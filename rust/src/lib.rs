@@ -2,13 +2,18 @@
 //! them: the registers that a driver sees, the requests and cache events of
 //! the emulated system, and the end of a bandwidth window.
 //!
-//! This crate wraps libcbqri.a. Set `CBQRI_LIB_DIR` to its folder when
-//! building. [`Bandwidth`] and [`Capacity`] own the record and tables that the
-//! C interface asks for; `cbqri.h` describes them byte by byte.
+//! This crate wraps libcbqri.a. It is looked for in the folder that
+//! `CBQRI_LIB_DIR` names when building, and where pkg-config finds it.
+//! [`Bandwidth`] and [`Capacity`] own the record and tables that the C
+//! interface asks for; `cbqri.h` describes them byte by byte. Several threads
+//! may read one controller at a time.
 //!
 //! What a caller does wrong is a [`Refusal`], and a refused call has changed
-//! nothing. What a driver does wrong shows in STATUS ([`Status`]) of the
-//! control register, and the write that carried it is `Ok`.
+//! nothing. What a driver asks of a register shows in STATUS ([`Status`]) of the
+//! control register, and the write that carried it is `Ok`. A driver's access
+//! of a wrong size or at a wrong place is [`Refusal::Size`] or
+//! [`Refusal::Offset`]: answer it as the emulated bus does, by an access fault
+//! or by reading 0 and dropping the write.
 //!
 //! ```
 //! use cbqri::{registers as reg, Bandwidth, BandwidthSetup, Kind, Status};
@@ -48,12 +53,19 @@
 mod bandwidth;
 mod capacity;
 mod ffi;
+mod parts;
 pub mod registers;
 
 pub use bandwidth::{Bandwidth, BandwidthBuffers, BandwidthSetup, Kind};
 pub use capacity::{Capacity, CapacityBuffers, CapacitySetup};
+pub use parts::{Counter, Setting};
 
 use std::fmt;
+
+/// The version of this crate and of the library. Keep it beside saved buffers:
+/// they are taken, with the same meaning, by every version with the same major
+/// number and, while that is 0, the same minor number.
+pub const VERSION: &str = env!("CARGO_PKG_VERSION");
 
 /// Why a call was refused, in the order in which it is checked. A refused call
 /// has changed nothing.
@@ -73,6 +85,7 @@ use std::fmt;
 /// assert_eq!(Refusal::Block as u64, 8);
 /// ```
 #[derive(Clone, Copy, Debug, PartialEq, Eq, Hash)]
+#[non_exhaustive]
 #[repr(u64)]
 pub enum Refusal {
     /// The set-up lies outside its ranges, or the record has another length.
@@ -141,6 +154,7 @@ impl std::error::Error for Refusal {}
 /// assert_eq!(Status::of_alloc(0), None);
 /// ```
 #[derive(Clone, Copy, Debug, PartialEq, Eq, Hash)]
+#[non_exhaustive]
 pub enum Status {
     /// 1: done.
     Ok,
@@ -158,16 +172,18 @@ pub enum Status {
 
 impl Status {
     /// STATUS of an alloc_ctl word; `None` if no operation ends so.
-    pub fn of_alloc(alloc_ctl: u64) -> Option<Status> {
+    #[must_use]
+    pub const fn of_alloc(alloc_ctl: u64) -> Option<Status> {
         Status::of(alloc_ctl, Status::BadAt, Status::BadLimit)
     }
 
     /// STATUS of a mon_ctl word; `None` if no operation ends so.
-    pub fn of_mon(mon_ctl: u64) -> Option<Status> {
+    #[must_use]
+    pub const fn of_mon(mon_ctl: u64) -> Option<Status> {
         Status::of(mon_ctl, Status::BadEvent, Status::BadAt)
     }
 
-    fn of(ctl: u64, four: Status, five: Status) -> Option<Status> {
+    const fn of(ctl: u64, four: Status, five: Status) -> Option<Status> {
         Some(match ctl >> 32 & 0x7f {
             1 => Status::Ok,
             2 => Status::BadOp,

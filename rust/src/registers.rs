@@ -3,7 +3,8 @@
 //! ```
 //! use cbqri::registers as reg;
 //!
-//! assert_eq!(reg::alloc_ctl(reg::CONFIG_LIMIT, 1, 1), 0x121);
+//! const SET: u64 = reg::alloc_ctl(reg::CONFIG_LIMIT, 1, 1);
+//! assert_eq!(SET, 0x121);
 //! assert_eq!(reg::mon_ctl(reg::CONFIG_EVENT, 0, 2, reg::EVENT_BYTES, false), 0x100201);
 //! assert_eq!(reg::holder(30, 5), 0x0050_001e);
 //! assert_eq!(reg::sharer(1), 0x9000_0000);
@@ -52,22 +53,26 @@ pub const BANDWIDTH_OVF: u64 = 1 << 63;
 pub const CAPACITY_INVALID: u64 = 1 << 63;
 
 /// A word for alloc_ctl.
-pub fn alloc_ctl(op: u64, at: u64, rcid: u64) -> u64 {
+#[must_use]
+pub const fn alloc_ctl(op: u64, at: u64, rcid: u64) -> u64 {
     (op & 0x1f) | (at & 7) << 5 | (rcid & 0xfff) << 8
 }
 
 /// A word for mon_ctl.
-pub fn mon_ctl(op: u64, at: u64, mcid: u64, evt_id: u64, atv: bool) -> u64 {
-    (op & 0x1f) | (at & 7) << 5 | (mcid & 0xfff) << 8 | (evt_id & 0xff) << 20 | u64::from(atv) << 28
+#[must_use]
+pub const fn mon_ctl(op: u64, at: u64, mcid: u64, evt_id: u64, atv: bool) -> u64 {
+    (op & 0x1f) | (at & 7) << 5 | (mcid & 0xfff) << 8 | (evt_id & 0xff) << 20 | (atv as u64) << 28
 }
 
 /// A word for bw_alloc: the pair holds Rbwb blocks. With Mweight 0 the pool
 /// gives it nothing.
-pub fn holder(rbwb: u16, mweight: u8) -> u64 {
-    u64::from(rbwb) | u64::from(mweight) << 20
+#[must_use]
+pub const fn holder(rbwb: u16, mweight: u8) -> u64 {
+    rbwb as u64 | (mweight as u64) << 20
 }
 
 /// A word for bw_alloc: the pair uses the blocks of another AT of its RCID.
-pub fn sharer(shared_at: u64) -> u64 {
+#[must_use]
+pub const fn sharer(shared_at: u64) -> u64 {
     1 << 31 | (shared_at & 7) << 28
 }

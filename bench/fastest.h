@@ -1,0 +1,16 @@
+/* The number that the benchmarks print of several repetitions: the least, which
+ * other programs on the machine disturbed least. */
+#ifndef FASTEST_H
+#define FASTEST_H
+
+enum { MOST_REPETITIONS = 99 };
+
+static double fastest(const double *numbers, int count)
+{
+    double least = numbers[0];
+    for (int i = 1; i < count; i++)
+        least = numbers[i] < least ? numbers[i] : least;
+    return least;
+}
+
+#endif

@@ -1,0 +1,175 @@
+//! Random calls on random set-ups, from a fixed seed: a refused call changes
+//! nothing, what the getters show is what a driver reads, and a controller
+//! restored from its saved buffers is the same one.
+
+use cbqri::registers as reg;
+use cbqri::{Bandwidth, BandwidthSetup, Capacity, CapacitySetup, Counter, Kind, Refusal, Setting};
+
+/// Random numbers with a fixed course (splitmix64).
+struct Random(u64);
+
+impl Random {
+    fn below(&mut self, bound: u64) -> u64 {
+        self.0 = self.0.wrapping_add(0x9e37_79b9_7f4a_7c15);
+        let mut z = self.0;
+        z = (z ^ z >> 30).wrapping_mul(0xbf58_476d_1ce4_e5b9);
+        z = (z ^ z >> 27).wrapping_mul(0x94d0_49bb_1331_11eb);
+        (z ^ z >> 31) % bound
+    }
+
+    /// Mostly below the bound, at times at or above it.
+    fn about(&mut self, bound: u64) -> u64 {
+        self.below(bound + 1 + bound / 8)
+    }
+
+    /// Size, offset and value of a write, at times a refused one.
+    fn write(&mut self, nr: u64, na: u64, nm: u64, operand: u64) -> (u64, u64, u64) {
+        let (op, at) = (1 + self.about(2), self.about(na));
+        let event = self.below(5);
+        let (offset, value) = match self.below(5) {
+            0 | 1 => (32, operand),
+            2 | 3 => (24, reg::alloc_ctl(op, at, self.about(nr))),
+            _ => (8, reg::mon_ctl(op, at, self.about(nm), event, self.below(2) == 1)),
+        };
+        match self.below(30) {
+            0 => (2, offset, value),
+            1 => (8, offset + 4, value),
+            2 => (4, offset, value | 1 << 32),
+            _ => (8, offset, value),
+        }
+    }
+}
+
+/// The number of a counter's register word.
+fn counter_word(counter: Counter, invalid: u64) -> u64 {
+    let flag = |set, bit| if set { bit } else { 0 };
+    counter.value | flag(counter.invalid, invalid) | flag(counter.overflowed, 1 << 63)
+}
+
+fn setting_word(setting: Option<Setting>) -> u64 {
+    match setting {
+        None => 0,
+        Some(Setting::Holder { rbwb, mweight }) => reg::holder(rbwb, mweight),
+        Some(Setting::Sharer { shared_at }) => reg::sharer(shared_at.into()),
+    }
+}
+
+fn bandwidth_call(bw: &mut Bandwidth, random: &mut Random) -> Result<(), Refusal> {
+    let BandwidthSetup { mrbwb, nr, na, nm, .. } = bw.setup();
+    match random.below(12) {
+        0 => bw.end_window(),
+        1..=3 => {
+            let kind = if random.below(2) == 0 { Kind::Read } else { Kind::Write };
+            let (rcid, mcid, at) = (random.about(nr), random.about(nm), random.about(na));
+            bw.request(rcid, mcid, at, kind, random.below(5000) as u32).map(|_| ())
+        }
+        _ => {
+            let holder = reg::holder(random.about(mrbwb) as u16, random.below(3) as u8);
+            let operand = if random.below(4) == 0 { reg::sharer(random.about(na)) } else { holder };
+            let (size, offset, value) = random.write(nr, na, nm, operand);
+            bw.write(size, offset, value)
+        }
+    }
+}
+
+/// What a driver reads of a pair and of a counter is what the getters show.
+fn bandwidth_reads(bw: &Bandwidth, random: &mut Random) {
+    let BandwidthSetup { nr, na, nm, .. } = bw.setup();
+    let (rcid, at, mcid) = (random.below(nr), random.below(na), random.below(nm));
+    let mut driver = bw.clone();
+    driver.write(8, reg::ALLOC_CTL, reg::alloc_ctl(reg::READ_LIMIT, at, rcid)).unwrap();
+    driver.write(8, reg::MON_CTL, reg::mon_ctl(reg::READ_COUNTER, 0, mcid, 0, false)).unwrap();
+    assert_eq!(driver.read(8, reg::BW_ALLOC), Ok(setting_word(bw.configured(rcid, at))));
+    let counter = counter_word(bw.counter(mcid).unwrap(), reg::BANDWIDTH_INVALID);
+    assert_eq!(driver.read(8, reg::MON_CTR_VAL), Ok(counter));
+    driver.end_window().unwrap();
+    assert_eq!(driver.active(rcid, at), bw.configured(rcid, at));
+    assert_eq!((bw.active(nr, 0), bw.configured(0, na), bw.counter(nm)), (None, None, None));
+}
+
+fn capacity_call(cc: &mut Capacity, random: &mut Random) -> Result<(), Refusal> {
+    let CapacitySetup { ncblks, nr, na, nm, .. } = cc.setup();
+    let (rcid, mcid, at) = (random.about(nr), random.about(nm), random.about(na));
+    match random.below(6) {
+        0 | 1 => cc.fill(rcid, mcid, at, random.about(ncblks)).map(|_| ()),
+        2 => cc.evict(rcid, mcid, at, random.about(ncblks)),
+        _ => {
+            let operand = random.below(1 << ncblks);
+            let (size, offset, value) = random.write(nr, na, nm, operand);
+            cc.write(size, offset, value)
+        }
+    }
+}
+
+fn capacity_reads(cc: &Capacity, random: &mut Random) {
+    let CapacitySetup { nr, na, nm, .. } = cc.setup();
+    let (rcid, at, mcid) = (random.below(nr), random.below(na), random.below(nm));
+    let mut driver = cc.clone();
+    driver.write(8, reg::ALLOC_CTL, reg::alloc_ctl(reg::READ_LIMIT, at, rcid)).unwrap();
+    driver.write(8, reg::MON_CTL, reg::mon_ctl(reg::READ_COUNTER, 0, mcid, 0, false)).unwrap();
+    assert_eq!(driver.read(8, reg::BLOCK_MASK).ok(), cc.mask(rcid, at));
+    let counter = counter_word(cc.counter(mcid).unwrap(), reg::CAPACITY_INVALID);
+    assert_eq!(driver.read(8, reg::MON_CTR_VAL), Ok(counter));
+    assert_eq!((cc.mask(nr, 0), cc.mask(0, na), cc.counter(nm)), (None, None, None));
+}
+
+/// A macro and not a function, since the controllers have no type in common.
+macro_rules! check_call {
+    ($controller:expr, $type:ident, $call:expr, $random:expr) => {{
+        let before = $controller.clone();
+        let refused = $call(&mut $controller, $random).is_err();
+        assert!(!refused || $controller == before);
+        assert_eq!($type::from_buffers($controller.buffers().clone()).as_ref(), Ok(&$controller));
+        refused
+    }};
+}
+
+#[test]
+fn random_calls() {
+    let mut random = Random(2023);
+    let mut refused = 0;
+    for _ in 0..150 {
+        let (nr, na, nm) = (1 + random.below(6), 1 + random.below(4), 1 + random.below(6));
+        let setup = BandwidthSetup { nbwblks: 100, mrbwb: 90, nr, na, nm, q: 64, w: 24 };
+        let mut bw = Bandwidth::new(setup).unwrap();
+        assert_eq!(bw.setup(), setup);
+        let setup = CapacitySetup { ncblks: 1 + random.below(40), nr, na, nm, w: 24 };
+        let mut cc = Capacity::new(setup).unwrap();
+        assert_eq!(cc.setup(), setup);
+        for _ in 0..100 {
+            refused += u32::from(check_call!(bw, Bandwidth, bandwidth_call, &mut random));
+            refused += u32::from(check_call!(cc, Capacity, capacity_call, &mut random));
+            bandwidth_reads(&bw, &mut random);
+            capacity_reads(&cc, &mut random);
+        }
+    }
+    assert!((1000..15000).contains(&refused), "{refused} of 30,000 calls were refused");
+}
+
+/// Several threads read one controller.
+#[test]
+fn reads_at_the_same_time() {
+    let setup = BandwidthSetup { nbwblks: 90, mrbwb: 80, nr: 16, na: 4, nm: 16, q: 64, w: 24 };
+    let bw = &Bandwidth::new(setup).unwrap();
+    let capabilities = bw.read(8, reg::CAPABILITIES);
+    std::thread::scope(|scope| {
+        for _ in 0..4 {
+            scope.spawn(|| {
+                for _ in 0..1000 {
+                    assert_eq!(bw.read(8, reg::CAPABILITIES), capabilities);
+                    assert_eq!(bw.read(8, 4), Err(Refusal::Offset));
+                }
+            });
+        }
+    });
+}
+
+/// `Debug` of the largest set-up is short, and shows what is set.
+#[test]
+fn debug_is_short() {
+    let setup = BandwidthSetup { nbwblks: 9, mrbwb: 9, nr: 256, na: 8, nm: 256, q: 1, w: 24 };
+    let shown = format!("{:?}", Bandwidth::new(setup).unwrap());
+    assert!(shown.len() < 2000, "{} bytes", shown.len());
+    let setup = CapacitySetup { ncblks: 64, nr: 256, na: 8, nm: 256, w: 24 };
+    assert!(format!("{:?}", Capacity::new(setup).unwrap()).len() < 2000);
+}
