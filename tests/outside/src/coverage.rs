@@ -69,6 +69,19 @@ fn outcome(call: &str, refusal: u64) -> String {
     }
 }
 
+/// What a call's refusal shows: its number, and for 3 what is not well formed.
+fn refusal_labels(
+    call: &str,
+    refusal: u64,
+    fault: impl FnOnce() -> Option<&'static str>,
+) -> Labels {
+    let mut labels = vec![outcome(call, refusal)];
+    if refusal == 3 {
+        labels.push(format!("refused 3 for {}", fault().unwrap_or("nothing")));
+    }
+    labels
+}
+
 /// The label of an operation's STATUS, if an accepted write performed one.
 fn operation(offset: u64, alloc_ctl: u64, mon_ctl: u64) -> Option<String> {
     match offset {

@@ -2,6 +2,7 @@
 
 use super::case::{BandwidthCase, CapacityCase};
 use super::Report;
+use crate::model::bandwidth::slices::*;
 use crate::model::{bandwidth, capacity};
 
 pub fn run(report: &mut Report) {
@@ -12,14 +13,6 @@ pub fn run(report: &mut Report) {
 
 /// Slice, index, value, and the refusal that the next call gives.
 type Form = (&'static str, usize, usize, u64, u64);
-
-// slices of the bandwidth controller
-const RECORD: usize = 0;
-const ACTIVE: usize = 1;
-const CONFIGURED: usize = 2;
-const USED: usize = 3;
-const COUNTERS: usize = 4;
-const EVENTS: usize = 5;
 
 // Configured and in force, as after P1 to P7: RCID 0 has 30 blocks, and its AT 1 shares AT 0;
 // RCID 1 has 30 blocks with weight 5, and its AT 1 shares AT 0; RCID 2 has 20 blocks; all else is unset.

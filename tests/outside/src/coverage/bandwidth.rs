@@ -1,11 +1,11 @@
 //! What a run shows of the bandwidth controller.
 
-use super::{common_required, operation, outcome, Labels};
+use super::{common_required, operation, refusal_labels, Labels};
 use crate::model::access::ALLOC_CTL;
 use crate::model::bandwidth::settings::{is_sharer, weight, RBWB, SHARED_AT, USE_SHARED};
 use crate::model::bandwidth::{fault, holder_of, Call, Request, State, OVF};
 use crate::model::registers::{AT, RCID, STATUS};
-use crate::model::{access_type, Answer};
+use crate::model::{access_type, Answer, Sizes};
 
 fn name(call: &Call) -> &'static str {
     match call {
@@ -18,10 +18,7 @@ fn name(call: &Call) -> &'static str {
 }
 
 pub fn labels(before: &State, call: &Call, answer: Answer, after: &State) -> Labels {
-    let mut labels = vec![outcome(name(call), answer.refusal)];
-    if answer.refusal == 3 {
-        labels.push(format!("refused 3 for {}", fault(before).unwrap_or("nothing")));
-    }
+    let mut labels = refusal_labels(name(call), answer.refusal, || fault(before));
     if answer.refusal != 0 {
         return labels;
     }

@@ -1,6 +1,6 @@
 //! What a run shows of the capacity controller.
 
-use super::{common_required, operation, outcome, Labels};
+use super::{common_required, operation, refusal_labels, Labels};
 use crate::model::capacity::{fault, Call, State, INVALID};
 use crate::model::Answer;
 
@@ -15,10 +15,7 @@ fn name(call: &Call) -> &'static str {
 }
 
 pub fn labels(before: &State, call: &Call, answer: Answer, after: &State) -> Labels {
-    let mut labels = vec![outcome(name(call), answer.refusal)];
-    if answer.refusal == 3 {
-        labels.push(format!("refused 3 for {}", fault(before).unwrap_or("nothing")));
-    }
+    let mut labels = refusal_labels(name(call), answer.refusal, || fault(before));
     if answer.refusal != 0 {
         return labels;
     }

@@ -1,8 +1,6 @@
 //! The listing: a line of text is a call on the bandwidth controller, and its answer is a line too.
 
-use super::bandwidth::{
-    in_range, perform, table_lengths, Call, Request, Setup, State, RECORD_LENGTH,
-};
+use super::bandwidth::{self, in_range, perform, Call, Request, Setup, State, RECORD_LENGTH};
 use super::Answer;
 
 /// The most bytes that a line has, its newline not counted.
@@ -89,11 +87,11 @@ impl Listing {
 
 /// Tables are lent as the set-up asks; one out of range is refused before any length is looked at.
 pub fn lengths(setup: &Setup) -> Vec<usize> {
-    let mut lengths = vec![RECORD_LENGTH];
     if in_range(setup) {
-        lengths.extend(table_lengths(setup));
+        bandwidth::lengths(setup)
+    } else {
+        vec![RECORD_LENGTH]
     }
-    lengths
 }
 
 /// A newline or the end of the text ends a line; nothing after the last newline is no line.

@@ -4,13 +4,9 @@ use super::super::common::flipped_bit;
 use super::super::{Change, Random, Step};
 use super::{any_call, Steps};
 use crate::model::bandwidth::settings::{all_reserved, reserved};
+use crate::model::bandwidth::slices::{COUNTERS, EVENTS, RECORD, USED};
 use crate::model::bandwidth::{pool_size, Setup, State};
-
-// the slices by number, and the bytes of a word in each
-const RECORD: usize = 0;
-const USED: usize = 3;
-const COUNTERS: usize = 4;
-const EVENTS: usize = 5;
+use crate::model::Sizes;
 
 /// One call on damaged memory; where it is refused the damage is undone.
 pub fn damaged_call(random: &mut Random, state: &State, lengths: &[usize]) -> Steps {

@@ -4,6 +4,7 @@ use super::super::common::flipped_bit;
 use super::super::{Change, Random, Step};
 use super::{any_call, Steps};
 use crate::model::capacity::{all_blocks, Setup};
+use crate::model::Sizes;
 
 // the slices by number
 const RECORD: usize = 0;

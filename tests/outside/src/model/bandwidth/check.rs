@@ -5,9 +5,11 @@ use super::settings::{
     all_reserved, bad_share, is_sharer, named_bits, reserved, shared_at, stored_form,
 };
 use super::{Call, Record, Setup, State, LAST_EVENT};
-use crate::model::access::{access_refusal, value_refusal};
-use crate::model::monitor::setting_well_formed;
+use crate::model::access::{access_refusal, write_refusal};
+use crate::model::check::{self, Asked};
+use crate::model::monitor::monitor_fault;
 use crate::model::registers::{alloc_ctl_well_formed, mon_ctl_well_formed};
+use crate::model::Sizes;
 
 /// The bytes of a record in the C interface: 12 words.
 pub const RECORD_LENGTH: usize = 96;
@@ -18,26 +20,19 @@ pub fn refusal(state: &State, lengths: &[usize], call: &Call) -> u64 {
         Call::Reset(setup) => (setup, true),
         _ => (&state.record.setup, false),
     };
-    if lengths[0] != RECORD_LENGTH || !in_range(setup) {
-        return 1;
-    }
-    if lengths[1..] != table_lengths(setup) {
-        return 2;
-    }
-    if !is_reset && !well_formed(state) {
-        return 3;
-    }
-    argument_refusal(setup, call)
+    check::refusal(Asked {
+        known: lengths[0] == RECORD_LENGTH && in_range(setup),
+        fits: || lengths[1..] == table_lengths(setup),
+        formed: || is_reset || well_formed(state),
+        arguments: || argument_refusal(setup, call),
+    })
 }
 
 /// Refusals 4 to 7: those that go by the call's own arguments.
 fn argument_refusal(setup: &Setup, call: &Call) -> u64 {
     match call {
         Call::Read { size, offset } => access_refusal(*size, *offset),
-        Call::Write { size, offset, value } => match access_refusal(*size, *offset) {
-            0 => value_refusal(*size, *value),
-            number => number,
-        },
+        Call::Write { size, offset, value } => write_refusal(*size, *offset, *value),
         Call::Request(request) if request.rcid >= setup.nr || request.mcid >= setup.nm => 7,
         _ => 0,
     }
@@ -45,20 +40,22 @@ fn argument_refusal(setup: &Setup, call: &Call) -> u64 {
 
 /// Whether every number of a set-up lies in its range.
 pub fn in_range(setup: &Setup) -> bool {
-    (1..=256).contains(&setup.nr)
-        && (1..=8).contains(&setup.na)
-        && (1..=256).contains(&setup.nm)
-        && (24..=62).contains(&setup.w)
+    setup.sizes_in_range()
         && (1..=65_535).contains(&setup.nbwblks)
         && (1..=setup.nbwblks).contains(&setup.mrbwb)
         && (1..=65_536).contains(&setup.q)
 }
 
 /// The lengths of active, configured, used, counters and events in bytes.
-pub fn table_lengths(setup: &Setup) -> [usize; 5] {
+fn table_lengths(setup: &Setup) -> [usize; 5] {
     let words = 4 * setup.pairs();
     let nm = setup.nm as usize;
     [words, words, words, 8 * nm, 2 * nm]
+}
+
+/// The lengths of the record and of the tables in bytes.
+pub fn lengths(setup: &Setup) -> Vec<usize> {
+    [RECORD_LENGTH].into_iter().chain(table_lengths(setup)).collect()
 }
 
 /// Document 01's "lawful": what the controller's own calls can leave, and no bit elsewhere.
@@ -79,12 +76,8 @@ pub fn fault(state: &State) -> Option<&'static str> {
         Some("used bytes")
     } else if state.record.pool_given > pool_size(setup, &state.active) {
         Some("the pool's bytes")
-    } else if state.counters.iter().any(|&word| CTR.get(word) >> setup.w != 0) {
-        Some("a counter")
-    } else if !state.events.iter().all(|&word| setting_well_formed(word, setup.na, LAST_EVENT)) {
-        Some("a counter setting")
     } else {
-        None
+        monitor_fault(setup, LAST_EVENT, CTR, &state.counters, &state.events)
     }
 }
 

@@ -3,12 +3,14 @@
 use super::event::CTR;
 use super::limits::all_blocks;
 use super::{Call, Event, Record, Setup, State, LAST_EVENT};
-use crate::model::access::{access_refusal, value_refusal};
-use crate::model::monitor::setting_well_formed;
+use crate::model::access::{access_refusal, write_refusal};
+use crate::model::check::{self, Asked};
+use crate::model::monitor::monitor_fault;
 use crate::model::registers::{alloc_ctl_well_formed, mon_ctl_well_formed};
+use crate::model::Sizes;
 
 /// The bytes of a record in the C interface: 9 words.
-pub const RECORD_LENGTH: usize = 72;
+const RECORD_LENGTH: usize = 72;
 
 /// The number of the first check that fails, or 0.
 pub fn refusal(state: &State, lengths: &[usize], call: &Call) -> u64 {
@@ -16,16 +18,12 @@ pub fn refusal(state: &State, lengths: &[usize], call: &Call) -> u64 {
         Call::Reset(setup) => (setup, true),
         _ => (&state.record.setup, false),
     };
-    if lengths[0] != RECORD_LENGTH || !in_range(setup) {
-        return 1;
-    }
-    if lengths[1..] != table_lengths(setup) {
-        return 2;
-    }
-    if !is_reset && !well_formed(state) {
-        return 3;
-    }
-    argument_refusal(setup, call)
+    check::refusal(Asked {
+        known: lengths[0] == RECORD_LENGTH && in_range(setup),
+        fits: || lengths[1..] == table_lengths(setup),
+        formed: || is_reset || well_formed(state),
+        arguments: || argument_refusal(setup, call),
+    })
 }
 
 /// Refusals 4 to 8: those that go by the call's own arguments.
@@ -33,10 +31,7 @@ fn argument_refusal(setup: &Setup, call: &Call) -> u64 {
     match call {
         Call::Reset(_) => 0,
         Call::Read { size, offset } => access_refusal(*size, *offset),
-        Call::Write { size, offset, value } => match access_refusal(*size, *offset) {
-            0 => value_refusal(*size, *value),
-            number => number,
-        },
+        Call::Write { size, offset, value } => write_refusal(*size, *offset, *value),
         Call::Fill(event) | Call::Evict(event) => event_refusal(setup, event),
     }
 }
@@ -53,17 +48,18 @@ fn event_refusal(setup: &Setup, event: &Event) -> u64 {
 
 /// Whether every number of a set-up lies in its range.
 pub fn in_range(setup: &Setup) -> bool {
-    (1..=256).contains(&setup.nr)
-        && (1..=8).contains(&setup.na)
-        && (1..=256).contains(&setup.nm)
-        && (24..=62).contains(&setup.w)
-        && (1..=64).contains(&setup.ncblks)
+    setup.sizes_in_range() && (1..=64).contains(&setup.ncblks)
 }
 
 /// The lengths of masks, counters and events in bytes.
-pub fn table_lengths(setup: &Setup) -> [usize; 3] {
+fn table_lengths(setup: &Setup) -> [usize; 3] {
     let nm = setup.nm as usize;
     [8 * setup.pairs(), 8 * nm, 2 * nm]
+}
+
+/// The lengths of the record and of the tables in bytes.
+pub fn lengths(setup: &Setup) -> Vec<usize> {
+    [RECORD_LENGTH].into_iter().chain(table_lengths(setup)).collect()
 }
 
 /// Document 01's "lawful". A mask of 0 is a pair that was never set.
@@ -79,12 +75,8 @@ pub fn fault(state: &State) -> Option<&'static str> {
         Some("a register")
     } else if state.masks.iter().any(|&mask| mask & !blocks != 0) {
         Some("a mask")
-    } else if state.counters.iter().any(|&word| CTR.get(word) >> setup.w != 0) {
-        Some("a counter")
-    } else if !state.events.iter().all(|&word| setting_well_formed(word, setup.na, LAST_EVENT)) {
-        Some("a counter setting")
     } else {
-        None
+        monitor_fault(setup, LAST_EVENT, CTR, &state.counters, &state.events)
     }
 }
 
