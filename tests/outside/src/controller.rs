@@ -6,12 +6,12 @@ use crate::coverage::{self, Labels};
 use crate::generator::{self, Random, Step};
 use crate::ledger::{self, Ledger};
 use crate::memory::Memory;
-use crate::model::{bandwidth, capacity, Answer, CommonCall};
+use crate::model::{bandwidth, capacity, Answer, Checked, CommonCall};
 use crate::{ffi, image};
 
 pub trait Controller {
     type Setup: Copy + Debug;
-    type State: Clone + Debug;
+    type State: Clone + Debug + Checked<Call = Self::Call>;
     type Call: Clone + Debug + CommonCall<Setup = Self::Setup>;
     type Ledger: Ledger<Call = Self::Call, State = Self::State>;
 
@@ -19,9 +19,6 @@ pub trait Controller {
     /// The lent slices and the bytes of one word in each.
     const REGIONS: &'static [(&'static str, usize)];
 
-    fn setup(state: &Self::State) -> Self::Setup;
-    /// The lengths of the lent slices in bytes.
-    fn lengths(setup: &Self::Setup) -> Vec<usize>;
     fn bytes(state: &Self::State) -> Vec<Vec<u8>>;
     fn state(contents: &[Vec<u8>]) -> Self::State;
 
@@ -68,14 +65,6 @@ impl Controller for Bandwidth {
         ("counters", 8),
         ("events", 2),
     ];
-
-    fn setup(state: &bandwidth::State) -> bandwidth::Setup {
-        state.record.setup
-    }
-
-    fn lengths(setup: &bandwidth::Setup) -> Vec<usize> {
-        bandwidth::lengths(setup)
-    }
 
     fn bytes(state: &bandwidth::State) -> Vec<Vec<u8>> {
         image::bandwidth_bytes(state)
@@ -139,14 +128,6 @@ impl Controller for Capacity {
     const NAME: &'static str = "capacity";
     const REGIONS: &'static [(&'static str, usize)] =
         &[("record", 8), ("masks", 8), ("counters", 8), ("events", 2)];
-
-    fn setup(state: &capacity::State) -> capacity::Setup {
-        state.record.setup
-    }
-
-    fn lengths(setup: &capacity::Setup) -> Vec<usize> {
-        capacity::lengths(setup)
-    }
 
     fn bytes(state: &capacity::State) -> Vec<Vec<u8>> {
         image::capacity_bytes(state)

@@ -5,6 +5,7 @@ use std::collections::VecDeque;
 use crate::controller::Controller;
 use crate::coverage::Coverage;
 use crate::generator::{another_reset, opening, Random, Step};
+use crate::model::Checked;
 use crate::session::{hexadecimal, Session};
 
 /// The first difference of a list: the steps up to it, and what differed.
@@ -49,7 +50,7 @@ fn run_list<C: Controller>(seed: u64, coverage: &mut Coverage) -> Result<(), Fai
         let outcome = session.take(&step, coverage);
         steps.push(step);
         if let Err(text) = outcome {
-            let setup = C::setup(session.state());
+            let setup = *session.state().setup();
             return Err(Failure { seed, setup, steps, text });
         }
     }
@@ -64,7 +65,7 @@ fn further_steps<C: Controller>(
 ) -> Vec<Step<C::Call>> {
     // without a reset the ledger would not follow the calls again
     if !session.is_followed() && random.percent(20) {
-        return another_reset::<C>(random, &C::setup(session.state()));
+        return another_reset::<C>(random, session.state().setup());
     }
     C::scenario(random, session.state(), &session.lengths(), quiet)
 }

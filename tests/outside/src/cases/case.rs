@@ -5,7 +5,7 @@ use crate::controller::{Bandwidth, Capacity, Controller};
 use crate::memory::Memory;
 use crate::model::access::{ALLOC_CTL, MON_CTL, OPERAND};
 use crate::model::registers::{CONFIG_LIMIT, READ_LIMIT, STATUS};
-use crate::model::{bandwidth, capacity, Answer, CommonCall};
+use crate::model::{bandwidth, capacity, Answer, Checked, CommonCall};
 
 pub struct Case<'a, C: Controller> {
     report: &'a mut Report,
@@ -31,7 +31,7 @@ impl<'a, C: Controller> Case<'a, C> {
 
     /// A case on memory that fits a set-up, after a reset to it.
     fn reset_to(report: &'a mut Report, setup: C::Setup) -> Case<'a, C> {
-        let mut case = Case::new(report, &C::lengths(&setup));
+        let mut case = Case::new(report, &C::State::lengths(&setup));
         case.answers("reset", &C::Call::reset(setup), 0);
         case
     }

@@ -3,9 +3,9 @@
 use super::{common_required, operation, refusal_labels, Labels};
 use crate::model::access::ALLOC_CTL;
 use crate::model::bandwidth::settings::{is_sharer, weight, RBWB, SHARED_AT, USE_SHARED};
-use crate::model::bandwidth::{fault, holder_of, Call, Request, State, OVF};
+use crate::model::bandwidth::{holder_of, Call, Request, State, OVF};
 use crate::model::registers::{AT, RCID, STATUS};
-use crate::model::{access_type, Answer, Sizes};
+use crate::model::{access_type, Answer, Checked, Sizes};
 
 fn name(call: &Call) -> &'static str {
     match call {
@@ -18,7 +18,7 @@ fn name(call: &Call) -> &'static str {
 }
 
 pub fn labels(before: &State, call: &Call, answer: Answer, after: &State) -> Labels {
-    let mut labels = refusal_labels(name(call), answer.refusal, || fault(before));
+    let mut labels = refusal_labels(name(call), answer.refusal, || before.fault());
     if answer.refusal != 0 {
         return labels;
     }

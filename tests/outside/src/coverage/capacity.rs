@@ -1,8 +1,8 @@
 //! What a run shows of the capacity controller.
 
 use super::{common_required, operation, refusal_labels, Labels};
-use crate::model::capacity::{fault, Call, State, INVALID};
-use crate::model::Answer;
+use crate::model::capacity::{Call, State, INVALID};
+use crate::model::{Answer, Checked};
 
 fn name(call: &Call) -> &'static str {
     match call {
@@ -15,7 +15,7 @@ fn name(call: &Call) -> &'static str {
 }
 
 pub fn labels(before: &State, call: &Call, answer: Answer, after: &State) -> Labels {
-    let mut labels = refusal_labels(name(call), answer.refusal, || fault(before));
+    let mut labels = refusal_labels(name(call), answer.refusal, || before.fault());
     if answer.refusal != 0 {
         return labels;
     }

@@ -10,11 +10,9 @@ use super::{Random, Step};
 use crate::controller::Bandwidth;
 use crate::model::access::{ALLOC_CTL, MON_CTR_VAL, OPERAND};
 use crate::model::bandwidth::settings::{reserved, weight};
-use crate::model::bandwidth::{
-    self, holder_of, in_range, pool_size, well_formed, Call, Request, Setup, State, LAST_EVENT,
-};
+use crate::model::bandwidth::{holder_of, pool_size, Call, Request, Setup, State, LAST_EVENT};
 use crate::model::registers::{CONFIG_LIMIT, READ_COUNTER, READ_LIMIT};
-use crate::model::Sizes;
+use crate::model::{Checked, CommonCall, Sizes};
 use operand::any_operand;
 
 type Steps = Vec<Step<Call>>;
@@ -22,7 +20,7 @@ type Steps = Vec<Step<Call>>;
 /// Some steps for the state as it is. In a quiet list nobody but the calls changes the memory.
 pub fn scenario(random: &mut Random, state: &State, lengths: &[usize], quiet: bool) -> Steps {
     let setup = state.record.setup;
-    if !in_range(&setup) || lengths[1..] != bandwidth::lengths(&setup)[1..] || !well_formed(state) {
+    if state.refusal(lengths, &Call::read(8, 0)) != 0 {
         return common::recovery::<Bandwidth>(random);
     }
     // large tables may be read in parts: more of what only refusal 3 can show

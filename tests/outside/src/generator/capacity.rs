@@ -7,18 +7,16 @@ use super::setups::capacity_outside;
 use super::{Change, Random, Step};
 use crate::controller::Capacity;
 use crate::model::access::{ALLOC_CTL, MON_CTR_VAL, OPERAND};
-use crate::model::capacity::{
-    self, all_blocks, in_range, well_formed, Call, Event, Setup, State, LAST_EVENT,
-};
+use crate::model::capacity::{all_blocks, Call, Event, Setup, State, LAST_EVENT};
 use crate::model::registers::{CONFIG_LIMIT, READ_COUNTER, READ_LIMIT};
-use crate::model::Sizes;
+use crate::model::{Checked, CommonCall, Sizes};
 
 type Steps = Vec<Step<Call>>;
 
 /// Some steps for the state as it is. In a quiet list nobody but the calls changes the memory.
 pub fn scenario(random: &mut Random, state: &State, lengths: &[usize], quiet: bool) -> Steps {
     let setup = state.record.setup;
-    if !in_range(&setup) || lengths[1..] != capacity::lengths(&setup)[1..] || !well_formed(state) {
+    if state.refusal(lengths, &Call::read(8, 0)) != 0 {
         return common::recovery::<Capacity>(random);
     }
     // large tables may be read in parts: more of what only refusal 3 can show

@@ -4,7 +4,7 @@ use super::{Change, Kind, Random, Step};
 use crate::controller::Controller;
 use crate::model::access::{ALLOC_CTL, MON_CTL, MON_CTR_VAL};
 use crate::model::registers::{AT, ATV, CONFIG_EVENT, EVT_ID, MCID, OP, RCID, READ_COUNTER};
-use crate::model::{CommonCall, Sizes};
+use crate::model::{Checked, CommonCall, Sizes};
 
 /// A list begins with any bytes in the record and tables, perhaps a call on these, and a reset.
 pub fn opening<C: Controller>(random: &mut Random) -> Vec<Step<C::Call>> {
@@ -23,7 +23,7 @@ fn reset<C: Controller>(setup: C::Setup) -> Step<C::Call> {
 
 /// New memory of a set-up's size with any bytes.
 fn lend<C: Controller>(random: &mut Random, setup: &C::Setup) -> Step<C::Call> {
-    let contents = any_bytes(random, &C::lengths(setup));
+    let contents = any_bytes(random, &C::State::lengths(setup));
     Step::Lend { contents, skew: random.below(8) as usize }
 }
 

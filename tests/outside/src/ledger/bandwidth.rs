@@ -184,8 +184,8 @@ impl Ledger {
 mod tests {
     use super::*;
     use crate::ledger::Ledger as _;
-    use crate::model::bandwidth::{lengths, perform};
-    use crate::model::Answer;
+    use crate::model::bandwidth::perform;
+    use crate::model::{Answer, Checked};
 
     const SETUP: Setup = Setup { nbwblks: 100, mrbwb: 80, nr: 4, na: 2, nm: 4, q: 64, w: 24 };
 
@@ -216,7 +216,7 @@ mod tests {
     }
 
     fn make(state: &mut State, ledger: &mut Ledger, call: &Call) -> Result<(), String> {
-        let answer = perform(state, &lengths(&SETUP), call);
+        let answer = perform(state, &State::lengths(&SETUP), call);
         ledger.observe(call, answer)?;
         ledger.check(state)
     }
@@ -260,7 +260,7 @@ mod tests {
         make(&mut state, &mut ledger, &write(24, 0x101)).unwrap();
         ledger.observe(&Call::EndWindow, Answer::value(0)).unwrap();
         assert!(ledger.check(&state).is_err(), "the state has seen no window end");
-        perform(&mut state, &lengths(&SETUP), &Call::EndWindow);
+        perform(&mut state, &State::lengths(&SETUP), &Call::EndWindow);
         assert!(ledger.check(&state).is_ok());
     }
 

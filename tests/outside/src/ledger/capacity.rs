@@ -147,8 +147,8 @@ impl Ledger {
 mod tests {
     use super::*;
     use crate::ledger::Ledger as _;
-    use crate::model::capacity::{lengths, perform};
-    use crate::model::Answer;
+    use crate::model::capacity::perform;
+    use crate::model::{Answer, Checked};
 
     const SETUP: Setup = Setup { ncblks: 8, nr: 4, na: 2, nm: 4, w: 24 };
 
@@ -173,7 +173,7 @@ mod tests {
     }
 
     fn make(state: &mut State, ledger: &mut Ledger, call: &Call) -> Result<(), String> {
-        let answer = perform(state, &lengths(&SETUP), call);
+        let answer = perform(state, &State::lengths(&SETUP), call);
         ledger.observe(call, answer)?;
         ledger.check(state)
     }

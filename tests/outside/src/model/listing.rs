@@ -1,7 +1,8 @@
 //! The listing: a line of text is a call on the bandwidth controller, and its answer is a line too.
 
-use super::bandwidth::{self, in_range, perform, Call, Request, Setup, State, RECORD_LENGTH};
+use super::bandwidth::{perform, Call, Request, Setup, State};
 use super::Answer;
+use super::Checked;
 
 /// The most bytes that a line has, its newline not counted.
 pub const LONGEST: usize = 80;
@@ -87,10 +88,10 @@ impl Listing {
 
 /// Tables are lent as the set-up asks; one out of range is refused before any length is looked at.
 pub fn lengths(setup: &Setup) -> Vec<usize> {
-    if in_range(setup) {
-        bandwidth::lengths(setup)
+    if State::in_range(setup) {
+        State::lengths(setup)
     } else {
-        vec![RECORD_LENGTH]
+        vec![State::RECORD_LENGTH]
     }
 }
 

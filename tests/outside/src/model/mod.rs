@@ -11,6 +11,7 @@ pub mod monitor;
 pub mod registers;
 mod sizes;
 
+pub use check::Checked;
 pub use sizes::Sizes;
 
 /// What a call hands back: the refusal's number, 0 for none, and a value that is 0 after a refusal.

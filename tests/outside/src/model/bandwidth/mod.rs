@@ -6,12 +6,12 @@ mod request;
 mod reset;
 pub mod settings;
 
-pub use check::{fault, in_range, lengths, well_formed, RECORD_LENGTH};
 pub use limits::alloc_status;
 pub use request::{counted, holder_of, pool_size, CTR, OVF};
 pub use reset::first_settings;
 
 use super::access::{self, Part};
+use super::check::Checked;
 use super::monitor::{write_mon_ctl, Monitor};
 use super::registers::VERSION;
 use super::Answer;
@@ -92,7 +92,7 @@ pub struct Request {
 
 /// Makes one call. `lengths` are those of the lent slices in bytes: record, then tables in order.
 pub fn perform(state: &mut State, lengths: &[usize], call: &Call) -> Answer {
-    let refusal = check::refusal(state, lengths, call);
+    let refusal = state.refusal(lengths, call);
     if refusal != 0 {
         return Answer::refused(refusal);
     }

@@ -4,11 +4,11 @@ mod check;
 mod event;
 mod limits;
 
-pub use check::{fault, in_range, lengths, well_formed};
 pub use event::{counted, CTR, INVALID};
 pub use limits::{all_blocks, alloc_status, first_masks};
 
 use super::access::{self, Part};
+use super::check::Checked;
 use super::monitor::{write_mon_ctl, Monitor};
 use super::registers::VERSION;
 use super::Answer;
@@ -77,7 +77,7 @@ pub struct Event {
 
 /// Makes one call. `lengths` are those of the lent slices in bytes: record, then tables in order.
 pub fn perform(state: &mut State, lengths: &[usize], call: &Call) -> Answer {
-    let refusal = check::refusal(state, lengths, call);
+    let refusal = state.refusal(lengths, call);
     if refusal != 0 {
         return Answer::refused(refusal);
     }
