@@ -23,22 +23,24 @@ pub fn scenario(random: &mut Random, state: &State, lengths: &[usize], quiet: bo
     if state.refusal(lengths, &Call::read(8, 0)) != 0 {
         return common::recovery::<Bandwidth>(random);
     }
+    let damage = |random: &mut Random| damage::damage(random, state, lengths);
+    let call = |random: &mut Random| any_call(random, &setup);
     // large tables may be read in parts: more of what only refusal 3 can show
     if !quiet && setup.pairs() > 32 && random.percent(40) {
-        return damage::damaged_call(random, state, lengths);
+        return common::damaged_call(random, damage, call);
     }
     match random.below(if quiet { 90 } else { 100 }) {
         0..=29 => configuration(random, state),
         30..=51 => requests(random, state),
         52..=60 => vec![Step::Call(Call::EndWindow)],
         61..=71 => monitoring(random, state),
-        72..=86 => vec![Step::Call(any_call(random, &setup))],
+        72..=86 => vec![Step::Call(call(random))],
         87..=89 => {
-            let call = any_call(random, &setup);
+            let call = call(random);
             vec![common::wrong_length(random, lengths, call)]
         }
-        90..=95 => damage::damaged_call(random, state, lengths),
-        96 => damage::kept_damage(random, state, lengths),
+        90..=95 => common::damaged_call(random, damage, call),
+        96 => common::kept_damage(random, damage, call),
         97 => edge_of_counter(random, state),
         98 => states::loaded(random, &setup),
         _ => common::another_reset::<Bandwidth>(random, &setup),

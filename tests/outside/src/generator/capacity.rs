@@ -19,21 +19,23 @@ pub fn scenario(random: &mut Random, state: &State, lengths: &[usize], quiet: bo
     if state.refusal(lengths, &Call::read(8, 0)) != 0 {
         return common::recovery::<Capacity>(random);
     }
+    let damage = |random: &mut Random| damage::damage(random, &setup, lengths);
+    let call = |random: &mut Random| any_call(random, &setup);
     // large tables may be read in parts: more of what only refusal 3 can show
     if !quiet && setup.pairs() > 32 && random.percent(40) {
-        return damage::damaged_call(random, &setup, lengths);
+        return common::damaged_call(random, damage, call);
     }
     match random.below(if quiet { 89 } else { 100 }) {
         0..=24 => configuration(random, &setup),
         25..=54 => events(random, state),
         55..=69 => monitoring(random, state),
-        70..=84 => vec![Step::Call(any_call(random, &setup))],
+        70..=84 => vec![Step::Call(call(random))],
         85..=88 => {
-            let call = any_call(random, &setup);
+            let call = call(random);
             vec![common::wrong_length(random, lengths, call)]
         }
-        89..=95 => damage::damaged_call(random, &setup, lengths),
-        96 => damage::kept_damage(random, &setup, lengths),
+        89..=95 => common::damaged_call(random, damage, call),
+        96 => common::kept_damage(random, damage, call),
         97 | 98 => edge_of_counter(random, &setup),
         _ => common::another_reset::<Capacity>(random, &setup),
     }

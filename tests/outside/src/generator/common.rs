@@ -214,6 +214,31 @@ pub fn wrong_length<C>(random: &mut Random, lengths: &[usize], call: C) -> Step<
     Step::WrongLength { region, length, call }
 }
 
+/// One call on damaged memory; where it is refused the damage is undone.
+pub fn damaged_call<C>(
+    random: &mut Random,
+    damage: impl Fn(&mut Random) -> Change,
+    call: impl Fn(&mut Random) -> C,
+) -> Vec<Step<C>> {
+    let changes = vec![damage(random)];
+    vec![Step::Damaged { changes, call: call(random) }]
+}
+
+/// Damage that stays, and calls on it; the next scenario finds what is left.
+pub fn kept_damage<C>(
+    random: &mut Random,
+    damage: impl Fn(&mut Random) -> Change,
+    call: impl Fn(&mut Random) -> C,
+) -> Vec<Step<C>> {
+    let count = random.between(1, 2);
+    let changes = (0..count).map(|_| damage(random)).collect();
+    let mut steps = vec![Step::Change(changes)];
+    for _ in 0..random.between(1, 4) {
+        steps.push(Step::Call(call(random)));
+    }
+    steps
+}
+
 /// One bit anywhere in the record or a table.
 pub fn flipped_bit(random: &mut Random, lengths: &[usize]) -> Change {
     let region = random.below(lengths.len() as u64) as usize;
