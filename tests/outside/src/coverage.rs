@@ -69,15 +69,18 @@ fn outcome(call: &str, refusal: u64) -> String {
     }
 }
 
-/// What a call's refusal shows: its number, and for 3 what is not well formed.
-fn refusal_labels(
+/// What a call showed: the number of its refusal and, for 3, what is not well formed; or what it did.
+fn shown(
     call: &str,
     refusal: u64,
     fault: impl FnOnce() -> Option<&'static str>,
+    accepted: impl FnOnce() -> Labels,
 ) -> Labels {
     let mut labels = vec![outcome(call, refusal)];
-    if refusal == 3 {
-        labels.push(format!("refused 3 for {}", fault().unwrap_or("nothing")));
+    match refusal {
+        0 => labels.extend(accepted()),
+        3 => labels.push(format!("refused 3 for {}", fault().unwrap_or("nothing"))),
+        _ => {}
     }
     labels
 }

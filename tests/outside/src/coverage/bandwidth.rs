@@ -1,6 +1,6 @@
 //! What a run shows of the bandwidth controller.
 
-use super::{common_required, operation, refusal_labels, Labels};
+use super::{common_required, operation, shown, Labels};
 use crate::model::access::ALLOC_CTL;
 use crate::model::bandwidth::settings::{is_sharer, weight, RBWB, SHARED_AT, USE_SHARED};
 use crate::model::bandwidth::{holder_of, Call, Request, State, OVF};
@@ -18,10 +18,13 @@ fn name(call: &Call) -> &'static str {
 }
 
 pub fn labels(before: &State, call: &Call, answer: Answer, after: &State) -> Labels {
-    let mut labels = refusal_labels(name(call), answer.refusal, || before.fault());
-    if answer.refusal != 0 {
-        return labels;
-    }
+    let accepted = || accepted(before, call, answer.value, after);
+    shown(name(call), answer.refusal, || before.fault(), accepted)
+}
+
+/// What an accepted call did, by the value that it handed back and the states around it.
+fn accepted(before: &State, call: &Call, value: u64, after: &State) -> Labels {
+    let mut labels = Vec::new();
     match call {
         Call::Write { offset, .. } => {
             labels.extend(operation(*offset, after.record.alloc_ctl, after.record.mon_ctl));
@@ -31,8 +34,8 @@ pub fn labels(before: &State, call: &Call, answer: Answer, after: &State) -> Lab
             }
         }
         Call::Request(request) => {
-            labels.push(source(before, request, answer.value, after));
-            labels.extend(counter_change(before, request, answer.value, after));
+            labels.push(source(before, request, value, after));
+            labels.extend(counter_change(before, request, value, after));
         }
         Call::EndWindow if before.active != after.active => {
             labels.push("window end put other settings in force".into());
