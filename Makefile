@@ -1,14 +1,19 @@
-# make test: prove every crate and run every test; the last line is 'N passed, M failed'.
-.PHONY: test run soak bench firmware firmware-run dist fmt clean
+# The lines '# make NAME: ..' are what make help prints.
+.PHONY: help quick test run soak bench firmware firmware-run dist fmt clean
 
-test:
-	@tests/run
+# make help: this list
+help:
+	@sed -n 's/^# make \([^:]*\): /\1: /p' Makefile | awk -F ': ' '{ name = $$1; sub(/^[^:]*: /, ""); printf "%-30s %s\n", "make " name, $$0 }'
 
-# make run: prove and build the listing program, and run document 01's worked example
+# make run: prove and build the listing program, and run document 01's worked example on it; 5 to 9 minutes the first time
 run:
-	@mkdir -p target && rt check listing > target/listing.log 2>&1 || { cat target/listing.log; exit 1; }
+	@mkdir -p target && tests/progress target/run.log rt check listing >&2
 	@$(MAKE) --no-print-directory target/listing
 	@target/listing crates/listing/stdin
+
+# make test: prove every crate, try the edits, run every test; about 40 minutes; the last line is 'N passed, M failed'
+test:
+	@tests/run
 
 # target/listing: the proved program as it was compiled, with listing/main.c around it
 PROVED = target/obj/listing.o
@@ -19,19 +24,23 @@ target/listing: listing/main.c include/cbqri.h $(PROVED)
 $(PROVED):
 	@echo "$@ is not there: run make test or make run, which prove and build it"; exit 2
 
-# make soak: the long tests, after make test; MINUTES=10
+# make quick: before a commit: what changed since BASE (origin/main, else the commit before the last) and all above it
+quick:
+	@tests/quick
+
+# make soak: after make test: random calls and lines for MINUTES (10), and the further edits of tests/more-edits
 soak:
 	@tests/soak
 
-# make bench: the listing program and the library beside plain and tuned C, after make test
+# make bench: after make test: the listing program and the library beside plain and tuned C, as ratios
 bench: target/listing
 	@$(MAKE) --no-print-directory -C bench LIB=$(CURDIR)/target/staticlib/libcbqri.a LISTING=$(CURDIR)/target/listing
 
-# make firmware: target/firmware/libcbqri.a for rv64, of the module that was proved
+# make firmware: the C library for rv64, target/firmware/libcbqri.a, of the modules that were proved
 firmware:
 	@$(MAKE) --no-print-directory -C firmware
 
-# make firmware-run: the example emulator on qemu's bare board
+# make firmware-run: the example emulator in C on qemu's bare RISC-V board
 firmware-run:
 	@$(MAKE) --no-print-directory -C firmware run
 
@@ -48,8 +57,10 @@ include include/install.mk
 $(LIB):
 	@echo "$@ is not there: run make test, which proves and builds it"; exit 2
 
+# make fmt: every .rt and .antt file in rt fmt's layout
 fmt:
 	rt fmt
 
+# make clean: removes target/, with all that was proved
 clean:
 	rm -rf target

@@ -42,53 +42,64 @@ static void differs(const char *controller, const struct interface *f, const str
     exit(1);
 }
 
+/* A controller: its place in answers, the bytes of its buffers, and a call on them. */
+struct controller {
+    const char *name;
+    int place;
+    size_t size;
+    uint64_t (*call)(const struct interface *f, void *b, const struct call *c, uint64_t *out);
+};
+
 /* One call by all versions; b becomes what the call leaves. */
-static void compare_bandwidth(struct bandwidth_buffers *b, const struct call *c)
+static void compare(const struct controller *k, void *b, int whole_words, const struct call *c)
 {
-    static struct bandwidth_buffers mine, first;
+    static union {
+        struct bandwidth_buffers bandwidth;
+        struct capacity_buffers capacity;
+    } mine, first;
     uint64_t first_out = 1, first_answer = 0;
     for (int v = 0; v < VERSIONS; v++) {
         uint64_t out = 1;
-        if (v == WORDS && !bandwidth_whole_words(b))
+        if (v == WORDS && !whole_words)
             continue;
-        mine = *b;
-        uint64_t answer = call_bandwidth(&versions[v], &mine, c, &out);
+        memcpy(&mine, b, k->size);
+        uint64_t answer = k->call(&versions[v], &mine, c, &out);
         if (v == 0) {
-            first = mine;
+            memcpy(&first, &mine, k->size);
             first_out = out;
             first_answer = answer;
         }
-        if (answer != first_answer || out != first_out || memcmp(&mine, &first, sizeof mine) ||
-            (answer && memcmp(&mine, b, sizeof mine)))
-            differs("bandwidth", &versions[v], c);
+        if (answer != first_answer || out != first_out || memcmp(&mine, &first, k->size) ||
+            (answer && memcmp(&mine, b, k->size)))
+            differs(k->name, &versions[v], c);
     }
-    *b = first;
+    memcpy(b, &first, k->size);
     calls++;
-    answers[0][first_answer]++;
+    answers[k->place][first_answer]++;
+}
+
+static uint64_t bandwidth_call(const struct interface *f, void *b, const struct call *c,
+                               uint64_t *out)
+{
+    return call_bandwidth(f, b, c, out);
+}
+
+static uint64_t capacity_call(const struct interface *f, void *b, const struct call *c,
+                              uint64_t *out)
+{
+    return call_capacity(f, b, c, out);
+}
+
+static void compare_bandwidth(struct bandwidth_buffers *b, const struct call *c)
+{
+    static const struct controller bandwidth = {"bandwidth", 0, sizeof *b, bandwidth_call};
+    compare(&bandwidth, b, bandwidth_whole_words(b), c);
 }
 
 static void compare_capacity(struct capacity_buffers *b, const struct call *c)
 {
-    static struct capacity_buffers mine, first;
-    uint64_t first_out = 1, first_answer = 0;
-    for (int v = 0; v < VERSIONS; v++) {
-        uint64_t out = 1;
-        if (v == WORDS && !capacity_whole_words(b))
-            continue;
-        mine = *b;
-        uint64_t answer = call_capacity(&versions[v], &mine, c, &out);
-        if (v == 0) {
-            first = mine;
-            first_out = out;
-            first_answer = answer;
-        }
-        if (answer != first_answer || out != first_out || memcmp(&mine, &first, sizeof mine) ||
-            (answer && memcmp(&mine, b, sizeof mine)))
-            differs("capacity", &versions[v], c);
-    }
-    *b = first;
-    calls++;
-    answers[1][first_answer]++;
+    static const struct controller capacity = {"capacity", 1, sizeof *b, capacity_call};
+    compare(&capacity, b, capacity_whole_words(b), c);
 }
 
 int main(int argc, char **argv)

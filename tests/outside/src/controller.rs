@@ -4,42 +4,33 @@ use std::fmt::Debug;
 
 use crate::coverage::{self, Labels};
 use crate::generator::{self, Random, Step};
+use crate::ledger::{self, Ledger};
 use crate::memory::Memory;
-use crate::model::{bandwidth, capacity, Answer};
-use crate::{ffi, image, ledger};
+use crate::model::{bandwidth, capacity, Answer, Checked, CommonCall};
+use crate::{ffi, image};
 
 pub trait Controller {
     type Setup: Copy + Debug;
-    type State: Clone + Debug;
-    type Call: Clone + Debug;
-    type Ledger;
+    type State: Clone + Debug + Checked<Call = Self::Call>;
+    type Call: Clone + Debug + CommonCall<Setup = Self::Setup>;
+    type Ledger: Ledger<Call = Self::Call, State = Self::State>;
 
     const NAME: &'static str;
     /// The lent slices and the bytes of one word in each.
     const REGIONS: &'static [(&'static str, usize)];
 
-    fn setup(state: &Self::State) -> Self::Setup;
     fn bytes(state: &Self::State) -> Vec<Vec<u8>>;
     fn state(contents: &[Vec<u8>]) -> Self::State;
-
-    fn read_call(size: u64, offset: u64) -> Self::Call;
-    fn write_call(size: u64, offset: u64, value: u64) -> Self::Call;
 
     /// The same call on the model and through the C interface.
     fn on_model(state: &mut Self::State, lengths: &[usize], call: &Self::Call) -> Answer;
     fn on_library(memory: &mut Memory, call: &Self::Call) -> Answer;
 
-    /// Lets the ledger see a call; an accepted reset opens a new one.
-    fn follow(
-        ledger: &mut Option<Self::Ledger>,
-        call: &Self::Call,
-        answer: Answer,
-        after: &Self::State,
-    ) -> Result<(), String>;
-
-    /// The first steps of a list of calls, a reset in a given state, and some further steps there.
-    fn opening(random: &mut Random) -> Vec<Step<Self::Call>>;
-    fn reset(random: &mut Random, state: &Self::State) -> Vec<Step<Self::Call>>;
+    /// Set-ups in range and outside, and any call.
+    fn setup_in_range(random: &mut Random) -> Self::Setup;
+    fn setup_outside(random: &mut Random) -> Self::Setup;
+    fn any_call(random: &mut Random, setup: &Self::Setup) -> Self::Call;
+    /// Some further steps of a list of calls, in a given state.
     fn scenario(
         random: &mut Random,
         state: &Self::State,
@@ -75,24 +66,12 @@ impl Controller for Bandwidth {
         ("events", 2),
     ];
 
-    fn setup(state: &bandwidth::State) -> bandwidth::Setup {
-        state.record.setup
-    }
-
     fn bytes(state: &bandwidth::State) -> Vec<Vec<u8>> {
         image::bandwidth_bytes(state)
     }
 
     fn state(contents: &[Vec<u8>]) -> bandwidth::State {
         image::bandwidth_state(contents)
-    }
-
-    fn read_call(size: u64, offset: u64) -> bandwidth::Call {
-        bandwidth::Call::Read { size, offset }
-    }
-
-    fn write_call(size: u64, offset: u64, value: u64) -> bandwidth::Call {
-        bandwidth::Call::Write { size, offset, value }
     }
 
     fn on_model(state: &mut bandwidth::State, lengths: &[usize], call: &bandwidth::Call) -> Answer {
@@ -103,27 +82,16 @@ impl Controller for Bandwidth {
         ffi::bandwidth(memory, call)
     }
 
-    fn follow(
-        ledger: &mut Option<Self::Ledger>,
-        call: &bandwidth::Call,
-        answer: Answer,
-        after: &bandwidth::State,
-    ) -> Result<(), String> {
-        if let (bandwidth::Call::Reset(setup), 0) = (call, answer.refusal) {
-            *ledger = Some(ledger::bandwidth::Ledger::after_reset(setup));
-        }
-        match ledger {
-            Some(ledger) => ledger.observe(call, answer).and_then(|_| ledger.check(after)),
-            None => Ok(()),
-        }
+    fn setup_in_range(random: &mut Random) -> bandwidth::Setup {
+        generator::setups::bandwidth_in_range(random)
     }
 
-    fn opening(random: &mut Random) -> Vec<Step<bandwidth::Call>> {
-        generator::bandwidth::opening(random)
+    fn setup_outside(random: &mut Random) -> bandwidth::Setup {
+        generator::setups::bandwidth_outside(random)
     }
 
-    fn reset(random: &mut Random, state: &bandwidth::State) -> Vec<Step<bandwidth::Call>> {
-        generator::bandwidth::another_reset(random, &state.record.setup)
+    fn any_call(random: &mut Random, setup: &bandwidth::Setup) -> bandwidth::Call {
+        generator::bandwidth::any_call(random, setup)
     }
 
     fn scenario(
@@ -161,24 +129,12 @@ impl Controller for Capacity {
     const REGIONS: &'static [(&'static str, usize)] =
         &[("record", 8), ("masks", 8), ("counters", 8), ("events", 2)];
 
-    fn setup(state: &capacity::State) -> capacity::Setup {
-        state.record.setup
-    }
-
     fn bytes(state: &capacity::State) -> Vec<Vec<u8>> {
         image::capacity_bytes(state)
     }
 
     fn state(contents: &[Vec<u8>]) -> capacity::State {
         image::capacity_state(contents)
-    }
-
-    fn read_call(size: u64, offset: u64) -> capacity::Call {
-        capacity::Call::Read { size, offset }
-    }
-
-    fn write_call(size: u64, offset: u64, value: u64) -> capacity::Call {
-        capacity::Call::Write { size, offset, value }
     }
 
     fn on_model(state: &mut capacity::State, lengths: &[usize], call: &capacity::Call) -> Answer {
@@ -189,27 +145,16 @@ impl Controller for Capacity {
         ffi::capacity(memory, call)
     }
 
-    fn follow(
-        ledger: &mut Option<Self::Ledger>,
-        call: &capacity::Call,
-        answer: Answer,
-        after: &capacity::State,
-    ) -> Result<(), String> {
-        if let (capacity::Call::Reset(setup), 0) = (call, answer.refusal) {
-            *ledger = Some(ledger::capacity::Ledger::after_reset(setup));
-        }
-        match ledger {
-            Some(ledger) => ledger.observe(call, answer).and_then(|_| ledger.check(after)),
-            None => Ok(()),
-        }
+    fn setup_in_range(random: &mut Random) -> capacity::Setup {
+        generator::setups::capacity_in_range(random)
     }
 
-    fn opening(random: &mut Random) -> Vec<Step<capacity::Call>> {
-        generator::capacity::opening(random)
+    fn setup_outside(random: &mut Random) -> capacity::Setup {
+        generator::setups::capacity_outside(random)
     }
 
-    fn reset(random: &mut Random, state: &capacity::State) -> Vec<Step<capacity::Call>> {
-        generator::capacity::another_reset(random, &state.record.setup)
+    fn any_call(random: &mut Random, setup: &capacity::Setup) -> capacity::Call {
+        generator::capacity::any_call(random, setup)
     }
 
     fn scenario(

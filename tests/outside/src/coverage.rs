@@ -69,6 +69,22 @@ fn outcome(call: &str, refusal: u64) -> String {
     }
 }
 
+/// What a call showed: the number of its refusal and, for 3, what is not well formed; or what it did.
+fn shown(
+    call: &str,
+    refusal: u64,
+    fault: impl FnOnce() -> Option<&'static str>,
+    accepted: impl FnOnce() -> Labels,
+) -> Labels {
+    let mut labels = vec![outcome(call, refusal)];
+    match refusal {
+        0 => labels.extend(accepted()),
+        3 => labels.push(format!("refused 3 for {}", fault().unwrap_or("nothing"))),
+        _ => {}
+    }
+    labels
+}
+
 /// The label of an operation's STATUS, if an accepted write performed one.
 fn operation(offset: u64, alloc_ctl: u64, mon_ctl: u64) -> Option<String> {
     match offset {

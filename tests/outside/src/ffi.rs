@@ -8,224 +8,94 @@ use crate::model::{bandwidth, capacity, Answer};
 /// What the caller's variable for the answer holds before a call: the call must overwrite it.
 const UNWRITTEN: u64 = 0xDEAD_BEEF_DEAD_BEEF;
 
-/// Declares the bandwidth controller's functions and one that makes any call by them.
-#[rustfmt::skip]
-macro_rules! bandwidth_functions {
-    ($call:ident, $reset:ident, $read:ident, $write:ident, $request:ident, $end_window:ident) => {
-        extern "C" {
-            fn $reset(
-                nbwblks: u64, mrbwb: u64, nr: u64, na: u64, nm: u64, q: u64, w: u64,
-                record: *mut u8, record_length: usize,
-                active: *mut u8, active_length: usize,
-                configured: *mut u8, configured_length: usize,
-                used: *mut u8, used_length: usize,
-                counters: *mut u8, counters_length: usize,
-                events: *mut u8, events_length: usize,
-            ) -> u64;
-
-            fn $read(
-                record: *mut u8, record_length: usize,
-                active: *mut u8, active_length: usize,
-                configured: *mut u8, configured_length: usize,
-                used: *mut u8, used_length: usize,
-                counters: *mut u8, counters_length: usize,
-                events: *mut u8, events_length: usize,
-                size: u64, offset: u64, value: *mut u64,
-            ) -> u64;
-
-            fn $write(
-                record: *mut u8, record_length: usize,
-                active: *mut u8, active_length: usize,
-                configured: *mut u8, configured_length: usize,
-                used: *mut u8, used_length: usize,
-                counters: *mut u8, counters_length: usize,
-                events: *mut u8, events_length: usize,
-                size: u64, offset: u64, value: u64,
-            ) -> u64;
-
-            fn $request(
-                record: *mut u8, record_length: usize,
-                active: *mut u8, active_length: usize,
-                configured: *mut u8, configured_length: usize,
-                used: *mut u8, used_length: usize,
-                counters: *mut u8, counters_length: usize,
-                events: *mut u8, events_length: usize,
-                rcid: u64, mcid: u64, at: u64, kind: u64, bytes: u32, granted: *mut u64,
-            ) -> u64;
-
-            fn $end_window(
-                record: *mut u8, record_length: usize,
-                active: *mut u8, active_length: usize,
-                configured: *mut u8, configured_length: usize,
-                used: *mut u8, used_length: usize,
-                counters: *mut u8, counters_length: usize,
-                events: *mut u8, events_length: usize,
-            ) -> u64;
-        }
-
-        fn $call(memory: &mut Memory, call: &bandwidth::Call) -> Answer {
-            use bandwidth::Call;
-            let [r, a, c, u, n, e] = memory.slices::<6>();
-            let mut value = UNWRITTEN;
-            // SAFETY: the slices are disjoint, alive, aligned and as long as said; `value` lives until the end.
-            let refusal = unsafe {
-                match *call {
-                    Call::Reset(s) => {
-                        value = 0;
-                        $reset(
-                            s.nbwblks, s.mrbwb, s.nr, s.na, s.nm, s.q, s.w,
-                            r.0, r.1, a.0, a.1, c.0, c.1, u.0, u.1, n.0, n.1, e.0, e.1)
-                    }
-                    Call::Read { size, offset } => $read(
-                        r.0, r.1, a.0, a.1, c.0, c.1, u.0, u.1, n.0, n.1, e.0, e.1,
-                        size, offset, &mut value),
-                    Call::Write { size, offset, value: written } => {
-                        value = 0;
-                        $write(
-                            r.0, r.1, a.0, a.1, c.0, c.1, u.0, u.1, n.0, n.1, e.0, e.1,
-                            size, offset, written)
-                    }
-                    Call::Request(q) => $request(
-                        r.0, r.1, a.0, a.1, c.0, c.1, u.0, u.1, n.0, n.1, e.0, e.1,
-                        q.rcid, q.mcid, q.at, q.kind, q.bytes, &mut value),
-                    Call::EndWindow => {
-                        value = 0;
-                        $end_window(
-                            r.0, r.1, a.0, a.1, c.0, c.1, u.0, u.1, n.0, n.1, e.0, e.1)
-                    }
-                }
-            };
-            Answer { refusal, value }
+/// A function of the C interface on lent memory, by the one for this kind of memory. In brackets are
+/// its slices; before them come the numbers of a set-up, after them the call's own arguments.
+macro_rules! c_function {
+    ([$($slice:ident),*] $name:ident by $on_bytes:ident or $on_words:ident, ($($number:ident),*) ($($own:ident: $type:ty),*)) => {
+        fn $name(memory: &mut Memory, $($number: u64,)* $($own: $type,)*) -> u64 {
+            extern "C" {
+                fn $on_bytes($($number: u64,)* $($slice: *mut u8, _: usize,)* $($own: $type,)*) -> u64;
+                fn $on_words($($number: u64,)* $($slice: *mut u8, _: usize,)* $($own: $type,)*) -> u64;
+            }
+            let function = if memory.is_words() { $on_words } else { $on_bytes };
+            let [$($slice),*] = memory.slices();
+            // SAFETY: the slices are disjoint, alive, aligned and as long as said; what the call
+            // hands back goes to a variable that lives until the end.
+            unsafe { function($($number,)* $($slice.0, $slice.1,)* $($own,)*) }
         }
     };
 }
 
-/// The same for the capacity controller.
-#[rustfmt::skip]
-macro_rules! capacity_functions {
-    ($call:ident, $reset:ident, $read:ident, $write:ident, $fill:ident, $evict:ident) => {
-        extern "C" {
-            fn $reset(
-                ncblks: u64, nr: u64, na: u64, nm: u64, w: u64,
-                record: *mut u8, record_length: usize,
-                masks: *mut u8, masks_length: usize,
-                counters: *mut u8, counters_length: usize,
-                events: *mut u8, events_length: usize,
-            ) -> u64;
-
-            fn $read(
-                record: *mut u8, record_length: usize,
-                masks: *mut u8, masks_length: usize,
-                counters: *mut u8, counters_length: usize,
-                events: *mut u8, events_length: usize,
-                size: u64, offset: u64, value: *mut u64,
-            ) -> u64;
-
-            fn $write(
-                record: *mut u8, record_length: usize,
-                masks: *mut u8, masks_length: usize,
-                counters: *mut u8, counters_length: usize,
-                events: *mut u8, events_length: usize,
-                size: u64, offset: u64, value: u64,
-            ) -> u64;
-
-            fn $fill(
-                record: *mut u8, record_length: usize,
-                masks: *mut u8, masks_length: usize,
-                counters: *mut u8, counters_length: usize,
-                events: *mut u8, events_length: usize,
-                rcid: u64, mcid: u64, at: u64, block: u64, allowed: *mut u64,
-            ) -> u64;
-
-            fn $evict(
-                record: *mut u8, record_length: usize,
-                masks: *mut u8, masks_length: usize,
-                counters: *mut u8, counters_length: usize,
-                events: *mut u8, events_length: usize,
-                rcid: u64, mcid: u64, at: u64, block: u64,
-            ) -> u64;
-        }
-
-        fn $call(memory: &mut Memory, call: &capacity::Call) -> Answer {
-            use capacity::Call;
-            let [r, m, n, e] = memory.slices::<4>();
-            let mut value = UNWRITTEN;
-            // SAFETY: as above.
-            let refusal = unsafe {
-                match *call {
-                    Call::Reset(s) => {
-                        value = 0;
-                        $reset(
-                            s.ncblks, s.nr, s.na, s.nm, s.w,
-                            r.0, r.1, m.0, m.1, n.0, n.1, e.0, e.1)
-                    }
-                    Call::Read { size, offset } => $read(
-                        r.0, r.1, m.0, m.1, n.0, n.1, e.0, e.1, size, offset, &mut value),
-                    Call::Write { size, offset, value: written } => {
-                        value = 0;
-                        $write(r.0, r.1, m.0, m.1, n.0, n.1, e.0, e.1, size, offset, written)
-                    }
-                    Call::Fill(f) => $fill(
-                        r.0, r.1, m.0, m.1, n.0, n.1, e.0, e.1,
-                        f.rcid, f.mcid, f.at, f.block, &mut value),
-                    Call::Evict(f) => {
-                        value = 0;
-                        $evict(
-                            r.0, r.1, m.0, m.1, n.0, n.1, e.0, e.1,
-                            f.rcid, f.mcid, f.at, f.block)
-                    }
-                }
-            };
-            Answer { refusal, value }
-        }
+macro_rules! bandwidth_function {
+    ($($rest:tt)*) => {
+        c_function!([record, active, configured, used, counters, events] $($rest)*);
     };
 }
 
-bandwidth_functions!(
-    bandwidth_on_bytes,
-    cbqri_bandwidth_reset,
-    cbqri_bandwidth_read,
-    cbqri_bandwidth_write,
-    cbqri_bandwidth_request,
-    cbqri_bandwidth_end_window
-);
-bandwidth_functions!(
-    bandwidth_on_words,
-    cbqri_bandwidth_reset_words,
-    cbqri_bandwidth_read_words,
-    cbqri_bandwidth_write_words,
-    cbqri_bandwidth_request_words,
-    cbqri_bandwidth_end_window_words
-);
-capacity_functions!(
-    capacity_on_bytes,
-    cbqri_capacity_reset,
-    cbqri_capacity_read,
-    cbqri_capacity_write,
-    cbqri_capacity_fill,
-    cbqri_capacity_evict
-);
-capacity_functions!(
-    capacity_on_words,
-    cbqri_capacity_reset_words,
-    cbqri_capacity_read_words,
-    cbqri_capacity_write_words,
-    cbqri_capacity_fill_words,
-    cbqri_capacity_evict_words
-);
+macro_rules! capacity_function {
+    ($($rest:tt)*) => {
+        c_function!([record, masks, counters, events] $($rest)*);
+    };
+}
 
-/// One call of the bandwidth controller, by the functions for this kind of memory.
+bandwidth_function!(bandwidth_reset by cbqri_bandwidth_reset or cbqri_bandwidth_reset_words,
+    (nbwblks, mrbwb, nr, na, nm, q, w) ());
+bandwidth_function!(bandwidth_read by cbqri_bandwidth_read or cbqri_bandwidth_read_words,
+    () (size: u64, offset: u64, value: &mut u64));
+bandwidth_function!(bandwidth_write by cbqri_bandwidth_write or cbqri_bandwidth_write_words,
+    () (size: u64, offset: u64, value: u64));
+bandwidth_function!(bandwidth_request by cbqri_bandwidth_request or cbqri_bandwidth_request_words,
+    () (rcid: u64, mcid: u64, at: u64, kind: u64, bytes: u32, granted: &mut u64));
+bandwidth_function!(bandwidth_end_window by cbqri_bandwidth_end_window or cbqri_bandwidth_end_window_words,
+    () ());
+
+capacity_function!(capacity_reset by cbqri_capacity_reset or cbqri_capacity_reset_words,
+    (ncblks, nr, na, nm, w) ());
+capacity_function!(capacity_read by cbqri_capacity_read or cbqri_capacity_read_words,
+    () (size: u64, offset: u64, value: &mut u64));
+capacity_function!(capacity_write by cbqri_capacity_write or cbqri_capacity_write_words,
+    () (size: u64, offset: u64, value: u64));
+capacity_function!(capacity_fill by cbqri_capacity_fill or cbqri_capacity_fill_words,
+    () (rcid: u64, mcid: u64, at: u64, block: u64, allowed: &mut u64));
+capacity_function!(capacity_evict by cbqri_capacity_evict or cbqri_capacity_evict_words,
+    () (rcid: u64, mcid: u64, at: u64, block: u64));
+
+/// The answer of a call that hands nothing back but its refusal.
+fn plain(refusal: u64) -> Answer {
+    Answer { refusal, value: 0 }
+}
+
+/// The answer of a call that hands a number back too.
+fn with_value(call: impl FnOnce(&mut u64) -> u64) -> Answer {
+    let mut value = UNWRITTEN;
+    let refusal = call(&mut value);
+    Answer { refusal, value }
+}
+
+/// One call of the bandwidth controller.
 pub fn bandwidth(memory: &mut Memory, call: &bandwidth::Call) -> Answer {
-    match memory.is_words() {
-        false => bandwidth_on_bytes(memory, call),
-        true => bandwidth_on_words(memory, call),
+    use bandwidth::Call::*;
+    match *call {
+        Reset(s) => plain(bandwidth_reset(memory, s.nbwblks, s.mrbwb, s.nr, s.na, s.nm, s.q, s.w)),
+        Read { size, offset } => with_value(|value| bandwidth_read(memory, size, offset, value)),
+        Write { size, offset, value } => plain(bandwidth_write(memory, size, offset, value)),
+        Request(r) => with_value(|granted| {
+            bandwidth_request(memory, r.rcid, r.mcid, r.at, r.kind, r.bytes, granted)
+        }),
+        EndWindow => plain(bandwidth_end_window(memory)),
     }
 }
 
-/// One call of the capacity controller, by the functions for this kind of memory.
+/// One call of the capacity controller.
 pub fn capacity(memory: &mut Memory, call: &capacity::Call) -> Answer {
-    match memory.is_words() {
-        false => capacity_on_bytes(memory, call),
-        true => capacity_on_words(memory, call),
+    use capacity::Call::*;
+    match *call {
+        Reset(s) => plain(capacity_reset(memory, s.ncblks, s.nr, s.na, s.nm, s.w)),
+        Read { size, offset } => with_value(|value| capacity_read(memory, size, offset, value)),
+        Write { size, offset, value } => plain(capacity_write(memory, size, offset, value)),
+        Fill(e) => {
+            with_value(|allowed| capacity_fill(memory, e.rcid, e.mcid, e.at, e.block, allowed))
+        }
+        Evict(e) => plain(capacity_evict(memory, e.rcid, e.mcid, e.at, e.block)),
     }
 }

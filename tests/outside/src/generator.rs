@@ -6,8 +6,9 @@ pub mod capacity;
 mod common;
 pub mod listing;
 mod random;
-mod setups;
+pub mod setups;
 mod step;
 
+pub use common::{another_reset, opening};
 pub use random::Random;
 pub use step::{Change, Kind, Step};

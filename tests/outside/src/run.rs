@@ -4,7 +4,8 @@ use std::collections::VecDeque;
 
 use crate::controller::Controller;
 use crate::coverage::Coverage;
-use crate::generator::{Random, Step};
+use crate::generator::{another_reset, opening, Random, Step};
+use crate::model::Checked;
 use crate::session::{hexadecimal, Session};
 
 /// The first difference of a list: the steps up to it, and what differed.
@@ -32,7 +33,7 @@ pub fn run<C: Controller>(
 fn run_list<C: Controller>(seed: u64, coverage: &mut Coverage) -> Result<(), Failure<C>> {
     let mut random = Random::new(seed);
     let mut session = Session::<C>::new();
-    let mut waiting = VecDeque::from(C::opening(&mut random));
+    let mut waiting = VecDeque::from(opening::<C>(&mut random));
     let mut steps = Vec::new();
     let quiet = random.percent(50);
     let mut budget = random.between(20, 400) as f64;
@@ -49,7 +50,7 @@ fn run_list<C: Controller>(seed: u64, coverage: &mut Coverage) -> Result<(), Fai
         let outcome = session.take(&step, coverage);
         steps.push(step);
         if let Err(text) = outcome {
-            let setup = C::setup(session.state());
+            let setup = *session.state().setup();
             return Err(Failure { seed, setup, steps, text });
         }
     }
@@ -64,7 +65,7 @@ fn further_steps<C: Controller>(
 ) -> Vec<Step<C::Call>> {
     // without a reset the ledger would not follow the calls again
     if !session.is_followed() && random.percent(20) {
-        return C::reset(random, session.state());
+        return another_reset::<C>(random, session.state().setup());
     }
     C::scenario(random, session.state(), &session.lengths(), quiet)
 }

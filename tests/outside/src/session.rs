@@ -3,6 +3,7 @@
 use crate::controller::Controller;
 use crate::coverage::{on, Coverage, KINDS};
 use crate::generator::{Change, Step};
+use crate::ledger::follow;
 use crate::memory::Memory;
 use crate::model::Answer;
 
@@ -78,7 +79,7 @@ impl<C: Controller> Session<C> {
                 .map_err(|text| format!("on {}: {text}", kind(memory)))?;
             coverage.note(on(kind(memory), &labels));
         }
-        C::follow(&mut self.ledger, call, expected, &self.state)?;
+        follow(&mut self.ledger, call, expected, &self.state)?;
         coverage.calls += 1;
         coverage.skipped += words.is_none() as u64;
         coverage.claimed += self.ledger.is_some() as u64;

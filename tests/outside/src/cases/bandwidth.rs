@@ -2,17 +2,10 @@
 
 use super::case::BandwidthCase;
 use super::Report;
+use crate::model::bandwidth::slices::*;
 
 const TWO_TYPES: [u64; 7] = [100, 80, 4, 2, 4, 64, 24];
 const THREE_TYPES: [u64; 7] = [100, 80, 4, 3, 4, 64, 24];
-
-// slices by number
-const RECORD: usize = 0;
-const ACTIVE: usize = 1;
-const CONFIGURED: usize = 2;
-const USED: usize = 3;
-const COUNTERS: usize = 4;
-const EVENTS: usize = 5;
 
 // words of the record
 const ALLOC_CTL_WORD: usize = 9;

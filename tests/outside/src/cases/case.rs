@@ -5,7 +5,7 @@ use crate::controller::{Bandwidth, Capacity, Controller};
 use crate::memory::Memory;
 use crate::model::access::{ALLOC_CTL, MON_CTL, OPERAND};
 use crate::model::registers::{CONFIG_LIMIT, READ_LIMIT, STATUS};
-use crate::model::{bandwidth, capacity, Answer};
+use crate::model::{bandwidth, capacity, Answer, Checked, CommonCall};
 
 pub struct Case<'a, C: Controller> {
     report: &'a mut Report,
@@ -27,6 +27,13 @@ impl<'a, C: Controller> Case<'a, C> {
     pub fn new(report: &'a mut Report, lengths: &[usize]) -> Case<'a, C> {
         let contents: Vec<Vec<u8>> = lengths.iter().map(|&n| vec![OLD_BYTE; n]).collect();
         Case { report, memory: Memory::new(&contents, SKEW), marker: std::marker::PhantomData }
+    }
+
+    /// A case on memory that fits a set-up, after a reset to it.
+    fn reset_to(report: &'a mut Report, setup: C::Setup) -> Case<'a, C> {
+        let mut case = Case::new(report, &C::State::lengths(&setup));
+        case.answers("reset", &C::Call::reset(setup), 0);
+        case
     }
 
     pub fn call(&mut self, call: &C::Call) -> Answer {
@@ -77,11 +84,11 @@ impl<'a, C: Controller> Case<'a, C> {
     }
 
     pub fn read(&mut self, name: &str, size: u64, offset: u64, value: u64) {
-        self.answers(name, &C::read_call(size, offset), value);
+        self.answers(name, &C::Call::read(size, offset), value);
     }
 
     pub fn write(&mut self, size: u64, offset: u64, value: u64) {
-        self.answers("write", &C::write_call(size, offset, value), 0);
+        self.answers("write", &C::Call::write(size, offset, value), 0);
     }
 
     /// A write that changes these words of the record and nothing else, each to the value given.
@@ -91,7 +98,7 @@ impl<'a, C: Controller> Case<'a, C> {
             expected.region_mut(0)[8 * word..8 * word + 8].copy_from_slice(&value.to_le_bytes());
         }
         let [size, offset, value] = write;
-        self.answers(name, &C::write_call(size, offset, value), 0);
+        self.answers(name, &C::Call::write(size, offset, value), 0);
         let same = self.memory.contents() == expected.contents();
         self.report.expect(&format!("{name}, all else unchanged"), same as u64, 1);
     }
@@ -109,8 +116,15 @@ impl<'a, C: Controller> Case<'a, C> {
     }
 
     fn status(&mut self, name: &str, offset: u64, status: u64) {
-        let answer = self.call(&C::read_call(8, offset));
+        let answer = self.call(&C::Call::read(8, offset));
         self.report.expect(name, STATUS.get(answer.value), status);
+    }
+
+    /// Writes an operand and alloc_ctl, and expects what alloc_ctl then reads.
+    pub fn operates(&mut self, name: &str, operand: u64, control: u64, word: u64) {
+        self.write(8, OPERAND, operand);
+        self.write(8, ALLOC_CTL, control);
+        self.read(name, 8, ALLOC_CTL, word);
     }
 
     /// Writes an operand and CONFIG_LIMIT for a pair, and expects its STATUS.
@@ -173,12 +187,7 @@ impl<'a, C: Controller> Case<'a, C> {
 impl<'a> Case<'a, Bandwidth> {
     /// NBWBLKS, MRBWB, NR, NA, NM, Q, W, as in the paper's line `s`; the memory fits and is reset.
     pub fn after_reset(report: &'a mut Report, numbers: [u64; 7]) -> BandwidthCase<'a> {
-        let setup = bandwidth_setup(numbers);
-        let mut lengths = vec![bandwidth::RECORD_LENGTH];
-        lengths.extend(bandwidth::table_lengths(&setup));
-        let mut case = Case::new(report, &lengths);
-        case.answers("reset", &bandwidth::Call::Reset(setup), 0);
-        case
+        Case::reset_to(report, bandwidth_setup(numbers))
     }
 
     /// RCID, MCID, AT, kind and bytes, as in the paper's line `q`.
@@ -202,12 +211,7 @@ pub fn bandwidth_setup(numbers: [u64; 7]) -> bandwidth::Setup {
 impl<'a> Case<'a, Capacity> {
     /// NCBLKS, NR, NA, NM, W; the memory fits and is reset.
     pub fn after_reset(report: &'a mut Report, numbers: [u64; 5]) -> CapacityCase<'a> {
-        let setup = capacity_setup(numbers);
-        let mut lengths = vec![capacity::RECORD_LENGTH];
-        lengths.extend(capacity::table_lengths(&setup));
-        let mut case = Case::new(report, &lengths);
-        case.answers("reset", &capacity::Call::Reset(setup), 0);
-        case
+        Case::reset_to(report, capacity_setup(numbers))
     }
 
     /// A fill by RCID, MCID, AT and block; 1 is allowed.

@@ -1,7 +1,9 @@
 //! Refusal 3: one word of a good state is changed, and the state is well formed or not.
 
-use super::case::{BandwidthCase, CapacityCase};
+use super::case::{BandwidthCase, CapacityCase, Case};
 use super::Report;
+use crate::controller::Controller;
+use crate::model::bandwidth::slices::*;
 use crate::model::{bandwidth, capacity};
 
 pub fn run(report: &mut Report) {
@@ -12,14 +14,6 @@ pub fn run(report: &mut Report) {
 
 /// Slice, index, value, and the refusal that the next call gives.
 type Form = (&'static str, usize, usize, u64, u64);
-
-// slices of the bandwidth controller
-const RECORD: usize = 0;
-const ACTIVE: usize = 1;
-const CONFIGURED: usize = 2;
-const USED: usize = 3;
-const COUNTERS: usize = 4;
-const EVENTS: usize = 5;
 
 // Configured and in force, as after P1 to P7: RCID 0 has 30 blocks, and its AT 1 shares AT 0;
 // RCID 1 has 30 blocks with weight 5, and its AT 1 shares AT 0; RCID 2 has 20 blocks; all else is unset.
@@ -133,12 +127,17 @@ fn bandwidth_one_type(report: &mut Report) {
         ("no operation stores ATV 1", EVENTS, 0, 0x0801, 3),
         ("event 1", EVENTS, 0, 0x0001, 0),
     ];
-    for (name, region, index, value, number) in forms {
+    try_forms(&mut c, &forms, 0x0000_0050_0000_6401, &bandwidth::Call::EndWindow);
+}
+
+/// Each form: a read of capabilities, or a refused call.
+fn try_forms<C: Controller>(c: &mut Case<C>, forms: &[Form], capabilities: u64, call: &C::Call) {
+    for &(name, region, index, value, number) in forms {
         c.aside(|c| {
             c.store(region, index, value);
             match number {
-                0 => c.read(name, 8, 0, 0x0000_0050_0000_6401),
-                _ => c.refuses(name, &bandwidth::Call::EndWindow, number),
+                0 => c.read(name, 8, 0, capabilities),
+                _ => c.refuses(name, call, number),
             }
         });
     }
@@ -168,13 +167,5 @@ fn capacity_forms(report: &mut Report) {
         ("ATV without an event", 3, 2, 0x0800, 3),
         ("AT 2 of 2", 3, 2, 0x0A01, 3),
     ];
-    for (name, region, index, value, number) in forms {
-        c.aside(|c| {
-            c.store(region, index, value);
-            match number {
-                0 => c.read(name, 8, 0, 0x801),
-                _ => c.refuses(name, &capacity::Call::Read { size: 8, offset: 0 }, number),
-            }
-        });
-    }
+    try_forms(&mut c, &forms, 0x801, &capacity::Call::Read { size: 8, offset: 0 });
 }

@@ -2,13 +2,10 @@
 
 use super::case::BandwidthCase;
 use super::Report;
+use crate::model::bandwidth::slices::{COUNTERS, RECORD, USED};
 
 const SETUP: [u64; 7] = [100, 80, 4, 2, 4, 64, 24];
 
-// slices by number
-const RECORD: usize = 0;
-const USED: usize = 3;
-const COUNTERS: usize = 4;
 /// The record's word with the bytes that the pool gave.
 const POOL: usize = 11;
 
@@ -23,36 +20,19 @@ fn p1_to_p10(report: &mut Report) {
     let mut c = BandwidthCase::after_reset(report, SETUP);
     c.read("P1 capabilities", 8, 0x00, 0x0000_0050_0000_6401);
 
-    c.write(8, 0x20, 10);
-    c.write(8, 0x18, 0x101);
-    c.read("P2 STATUS 5", 8, 0x18, 0x0000_0005_0000_0101);
-
-    c.write(8, 0x20, 30);
-    c.write(8, 0x18, 1);
-    c.read("P3 RCID 0 to 30", 8, 0x18, 0x0000_0001_0000_0001);
-
-    c.write(8, 0x20, 0x0050_001E);
-    c.write(8, 0x18, 0x101);
-    c.read("P4 RCID 1 to 30, weight 5", 8, 0x18, 0x0000_0001_0000_0101);
-
-    c.write(8, 0x20, 21);
-    c.write(8, 0x18, 0x201);
-    c.read("P5 RCID 2 to 21", 8, 0x18, 0x0000_0005_0000_0201);
-    c.write(8, 0x20, 20);
-    c.write(8, 0x18, 0x201);
-    c.read("P5 RCID 2 to 20", 8, 0x18, 0x0000_0001_0000_0201);
+    c.operates("P2 STATUS 5", 10, 0x101, 0x0000_0005_0000_0101);
+    c.operates("P3 RCID 0 to 30", 30, 1, 0x0000_0001_0000_0001);
+    c.operates("P4 RCID 1 to 30, weight 5", 0x0050_001E, 0x101, 0x0000_0001_0000_0101);
+    c.operates("P5 RCID 2 to 21", 21, 0x201, 0x0000_0005_0000_0201);
+    c.operates("P5 RCID 2 to 20", 20, 0x201, 0x0000_0001_0000_0201);
 
     c.write(8, 0x18, 0x401);
     c.read("P6 RCID 4", 8, 0x18, 0x0000_0003_0000_0401);
     c.write(8, 0x18, 0x403);
     c.read("P6 OP comes first", 8, 0x18, 0x0000_0002_0000_0403);
 
-    c.write(8, 0x20, 0x8000_0000);
-    c.write(8, 0x18, 0x121);
-    c.read("P7 AT 1 shares AT 0", 8, 0x18, 0x0000_0001_0000_0121);
-    c.write(8, 0x20, 0x9000_0000);
-    c.write(8, 0x18, 0x121);
-    c.read("P7 AT 1 shares itself", 8, 0x18, 0x0000_0005_0000_0121);
+    c.operates("P7 AT 1 shares AT 0", 0x8000_0000, 0x121, 0x0000_0001_0000_0121);
+    c.operates("P7 AT 1 shares itself", 0x9000_0000, 0x121, 0x0000_0005_0000_0121);
 
     p8_to_p10(&mut c);
 }
@@ -98,9 +78,7 @@ fn p12(report: &mut Report) {
 /// s 100 80 4 2 4 64 24 · w 8 20 1e · w 8 18 1 · r 8 18 · q 1 0 0 0 10 · e
 fn listing(report: &mut Report) {
     let mut c = BandwidthCase::after_reset(report, SETUP);
-    c.write(8, 0x20, 0x1e);
-    c.write(8, 0x18, 1);
-    c.read("listing, r 8 18", 8, 0x18, 0x0000_0001_0000_0001);
+    c.operates("listing, r 8 18", 0x1e, 1, 0x0000_0001_0000_0001);
     c.request("listing, q 1 0 0 0 10", [1, 0, 0, 0, 10], 0);
     c.end_window();
 }

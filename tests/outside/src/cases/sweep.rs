@@ -3,6 +3,7 @@
 use super::case::{BandwidthCase, CapacityCase, Case};
 use super::Report;
 use crate::controller::Controller;
+use crate::model::CommonCall;
 
 pub fn run(report: &mut Report) {
     for (nr, na) in [(256, 8), (256, 1), (43, 3), (33, 4), (26, 5), (22, 6), (19, 7), (17, 2)] {
@@ -22,7 +23,7 @@ fn probe<C: Controller>(c: &mut Case<C>, name: &str, words: &[(usize, usize, u64
     for &(region, index, value) in words {
         c.store(region, index, value);
     }
-    c.refusal(name, &C::read_call(8, 0), number);
+    c.refusal(name, &C::Call::read(8, 0), number);
     for (&(region, index, _), &value) in words.iter().zip(&old) {
         c.store(region, index, value);
     }

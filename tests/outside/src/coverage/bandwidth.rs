@@ -1,11 +1,11 @@
 //! What a run shows of the bandwidth controller.
 
-use super::{common_required, operation, outcome, Labels};
+use super::{common_required, operation, shown, Labels};
 use crate::model::access::ALLOC_CTL;
 use crate::model::bandwidth::settings::{is_sharer, weight, RBWB, SHARED_AT, USE_SHARED};
-use crate::model::bandwidth::{fault, holder_of, Call, Request, State, OVF};
+use crate::model::bandwidth::{holder_of, Call, Request, State, OVF};
 use crate::model::registers::{AT, RCID, STATUS};
-use crate::model::{access_type, Answer};
+use crate::model::{access_type, Answer, Checked, Sizes};
 
 fn name(call: &Call) -> &'static str {
     match call {
@@ -18,13 +18,13 @@ fn name(call: &Call) -> &'static str {
 }
 
 pub fn labels(before: &State, call: &Call, answer: Answer, after: &State) -> Labels {
-    let mut labels = vec![outcome(name(call), answer.refusal)];
-    if answer.refusal == 3 {
-        labels.push(format!("refused 3 for {}", fault(before).unwrap_or("nothing")));
-    }
-    if answer.refusal != 0 {
-        return labels;
-    }
+    let accepted = || accepted(before, call, answer.value, after);
+    shown(name(call), answer.refusal, || before.fault(), accepted)
+}
+
+/// What an accepted call did, by the value that it handed back and the states around it.
+fn accepted(before: &State, call: &Call, value: u64, after: &State) -> Labels {
+    let mut labels = Vec::new();
     match call {
         Call::Write { offset, .. } => {
             labels.extend(operation(*offset, after.record.alloc_ctl, after.record.mon_ctl));
@@ -34,8 +34,8 @@ pub fn labels(before: &State, call: &Call, answer: Answer, after: &State) -> Lab
             }
         }
         Call::Request(request) => {
-            labels.push(source(before, request, answer.value, after));
-            labels.extend(counter_change(before, request, answer.value, after));
+            labels.push(source(before, request, value, after));
+            labels.extend(counter_change(before, request, value, after));
         }
         Call::EndWindow if before.active != after.active => {
             labels.push("window end put other settings in force".into());

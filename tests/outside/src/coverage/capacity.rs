@@ -1,8 +1,8 @@
 //! What a run shows of the capacity controller.
 
-use super::{common_required, operation, outcome, Labels};
-use crate::model::capacity::{fault, Call, State, INVALID};
-use crate::model::Answer;
+use super::{common_required, operation, shown, Labels};
+use crate::model::capacity::{Call, State, INVALID};
+use crate::model::{Answer, Checked};
 
 fn name(call: &Call) -> &'static str {
     match call {
@@ -15,20 +15,20 @@ fn name(call: &Call) -> &'static str {
 }
 
 pub fn labels(before: &State, call: &Call, answer: Answer, after: &State) -> Labels {
-    let mut labels = vec![outcome(name(call), answer.refusal)];
-    if answer.refusal == 3 {
-        labels.push(format!("refused 3 for {}", fault(before).unwrap_or("nothing")));
-    }
-    if answer.refusal != 0 {
-        return labels;
-    }
+    let accepted = || accepted(before, call, answer.value, after);
+    shown(name(call), answer.refusal, || before.fault(), accepted)
+}
+
+/// What an accepted call did, by the value that it handed back and the states around it.
+fn accepted(before: &State, call: &Call, value: u64, after: &State) -> Labels {
+    let mut labels = Vec::new();
     match call {
         Call::Write { offset, .. } => {
             labels.extend(operation(*offset, after.record.alloc_ctl, after.record.mon_ctl));
             labels.extend(state_change(before, after));
         }
         Call::Fill(event) => {
-            let allowed = if answer.value == 1 { "allowed" } else { "not allowed" };
+            let allowed = if value == 1 { "allowed" } else { "not allowed" };
             labels.push(format!("fill {allowed}"));
             labels.extend(counter_change("fill", before, event.mcid, after));
         }

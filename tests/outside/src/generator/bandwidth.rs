@@ -4,98 +4,47 @@ mod damage;
 mod operand;
 mod states;
 
-use super::common::{self, Write};
-use super::setups::{bandwidth_in_range, bandwidth_outside};
+use super::common;
+use super::setups::bandwidth_outside;
 use super::{Random, Step};
+use crate::controller::Bandwidth;
 use crate::model::access::{ALLOC_CTL, MON_CTR_VAL, OPERAND};
 use crate::model::bandwidth::settings::{reserved, weight};
-use crate::model::bandwidth::{
-    holder_of, in_range, pool_size, table_lengths, well_formed, Call, Request, Setup, State,
-    LAST_EVENT, RECORD_LENGTH,
-};
-use crate::model::registers::{CONFIG_EVENT, CONFIG_LIMIT, READ_COUNTER, READ_LIMIT};
+use crate::model::bandwidth::{holder_of, pool_size, Call, Request, Setup, State, LAST_EVENT};
+use crate::model::registers::{CONFIG_LIMIT, READ_COUNTER, READ_LIMIT};
+use crate::model::{Checked, CommonCall, Sizes};
 use operand::any_operand;
 
 type Steps = Vec<Step<Call>>;
 
-/// A list begins with any bytes in the record and tables, perhaps a call on these, and a reset.
-pub fn opening(random: &mut Random) -> Steps {
-    let setup = bandwidth_in_range(random);
-    let mut steps = vec![lend(random, &setup)];
-    if random.percent(30) {
-        steps.push(Step::Call(any_call(random, &setup)));
-    }
-    steps.push(Step::Call(Call::Reset(setup)));
-    steps
-}
-
-/// New memory of a set-up's size with any bytes.
-fn lend(random: &mut Random, setup: &Setup) -> Step<Call> {
-    let mut lengths = vec![RECORD_LENGTH];
-    lengths.extend(table_lengths(setup));
-    let contents = common::any_bytes(random, &lengths);
-    Step::Lend { contents, skew: random.below(8) as usize }
-}
-
 /// Some steps for the state as it is. In a quiet list nobody but the calls changes the memory.
 pub fn scenario(random: &mut Random, state: &State, lengths: &[usize], quiet: bool) -> Steps {
     let setup = state.record.setup;
-    if !in_range(&setup) || lengths[1..] != table_lengths(&setup) || !well_formed(state) {
-        return recovery(random);
+    if state.refusal(lengths, &Call::read(8, 0)) != 0 {
+        return common::recovery::<Bandwidth>(random);
     }
+    let damage = |random: &mut Random| damage::damage(random, state, lengths);
+    let call = |random: &mut Random| any_call(random, &setup);
     // large tables may be read in parts: more of what only refusal 3 can show
     if !quiet && setup.pairs() > 32 && random.percent(40) {
-        return damage::damaged_call(random, state, lengths);
+        return common::damaged_call(random, damage, call);
     }
     match random.below(if quiet { 90 } else { 100 }) {
         0..=29 => configuration(random, state),
         30..=51 => requests(random, state),
         52..=60 => vec![Step::Call(Call::EndWindow)],
         61..=71 => monitoring(random, state),
-        72..=86 => vec![Step::Call(any_call(random, &setup))],
+        72..=86 => vec![Step::Call(call(random))],
         87..=89 => {
-            let call = any_call(random, &setup);
+            let call = call(random);
             vec![common::wrong_length(random, lengths, call)]
         }
-        90..=95 => damage::damaged_call(random, state, lengths),
-        96 => damage::kept_damage(random, state, lengths),
+        90..=95 => common::damaged_call(random, damage, call),
+        96 => common::kept_damage(random, damage, call),
         97 => edge_of_counter(random, state),
         98 => states::loaded(random, &setup),
-        _ => another_reset(random, &setup),
+        _ => common::another_reset::<Bandwidth>(random, &setup),
     }
-}
-
-/// A call on what cannot be used, then a reset that makes all good again.
-fn recovery(random: &mut Random) -> Steps {
-    let setup = bandwidth_in_range(random);
-    let mut steps = vec![Step::Call(any_call(random, &setup))];
-    if random.percent(60) {
-        steps.push(lend(random, &setup));
-        steps.push(Step::Call(Call::Reset(setup)));
-    }
-    steps
-}
-
-/// A reset: of the same size, of another one with or without new memory, or out of range.
-pub fn another_reset(random: &mut Random, setup: &Setup) -> Steps {
-    let other = bandwidth_in_range(random);
-    match random.below(4) {
-        0 => vec![Step::Call(Call::Reset(*setup))],
-        1 => vec![Step::Call(Call::Reset(other))],
-        2 => vec![Step::Call(Call::Reset(bandwidth_outside(random)))],
-        _ => {
-            let call = Step::Call(any_call(random, &other));
-            vec![lend(random, &other), call, Step::Call(Call::Reset(other))]
-        }
-    }
-}
-
-fn write((size, offset, value): Write) -> Step<Call> {
-    Step::Call(Call::Write { size, offset, value })
-}
-
-fn read(size: u64, offset: u64) -> Step<Call> {
-    Step::Call(Call::Read { size, offset })
 }
 
 /// Any call, with arguments of every kind.
@@ -124,14 +73,15 @@ fn configuration(random: &mut Random, state: &State) -> Steps {
     let junk = if random.percent(30) { random.next() << 32 | 0xF_0000 } else { 0 };
     let operand =
         if random.percent(30) { (4, OPERAND, operand) } else { (8, OPERAND, operand | junk) };
-    let mut steps = vec![write(operand), write(common::alloc_ctl(random, CONFIG_LIMIT, rcid, at))];
+    let mut steps =
+        vec![Step::write(operand), Step::write(common::alloc_ctl(random, CONFIG_LIMIT, rcid, at))];
     if random.percent(30) {
-        steps.push(read(8, ALLOC_CTL));
+        steps.push(Step::read(8, ALLOC_CTL));
     }
     if random.percent(40) {
-        steps.push(read(random.pick(&[4, 8]), OPERAND));
-        steps.push(write(common::alloc_ctl(random, READ_LIMIT, rcid, at)));
-        steps.push(read(random.pick(&[4, 8]), OPERAND));
+        steps.push(Step::read(random.pick(&[4, 8]), OPERAND));
+        steps.push(Step::write(common::alloc_ctl(random, READ_LIMIT, rcid, at)));
+        steps.push(Step::read(random.pick(&[4, 8]), OPERAND));
     }
     steps
 }
@@ -169,10 +119,7 @@ fn any_request(random: &mut Random, setup: &Setup, bytes: u32) -> Request {
         0 => random.number(),
         other => other % 2,
     };
-    // few RCIDs are set up, so low numbers come more often
-    let rcid =
-        if random.percent(40) { random.below(setup.nr.min(3)) } else { random.index(setup.nr) };
-    let at = if random.percent(90) { random.below(setup.na) } else { random.number() };
+    let (rcid, at) = common::any_pair(random, setup);
     Request { rcid, mcid: random.index(setup.nm), at, kind, bytes }
 }
 
@@ -203,25 +150,11 @@ fn likely_bytes(random: &mut Random, state: &State, request: &Request) -> u32 {
 /// Sets a counter's event, makes requests that it may count, and reads it.
 fn monitoring(random: &mut Random, state: &State) -> Steps {
     let setup = &state.record.setup;
-    if random.percent(30) {
-        let value = common::any_mon_ctl(random, setup.na, setup.nm, LAST_EVENT);
-        return vec![write(value), read(8, MON_CTR_VAL)];
-    }
-    let mcid = random.below(setup.nm);
-    let fields = common::event_fields(random, setup.na, LAST_EVENT);
-    let mut steps = vec![write(common::mon_ctl(random, CONFIG_EVENT, mcid, fields))];
-    for mut step in requests(random, state) {
-        if let Step::Call(Call::Request(request)) = &mut step {
-            if random.percent(80) {
-                request.mcid = mcid;
-            }
-        }
-        steps.push(step);
-    }
-    let fields = common::event_fields(random, setup.na, LAST_EVENT);
-    steps.push(write(common::mon_ctl(random, READ_COUNTER, mcid, fields)));
-    steps.push(read(8, MON_CTR_VAL));
-    steps
+    let calls = |random: &mut Random| requests(random, state);
+    common::monitoring(random, setup, LAST_EVENT, calls, |call| match call {
+        Call::Request(request) => &mut request.mcid,
+        _ => unreachable!("requests alone"),
+    })
 }
 
 /// Puts a counter near 2^W into the lent table, as a caller may, and lets grants reach it.
@@ -240,8 +173,8 @@ fn edge_of_counter(random: &mut Random, state: &State) -> Steps {
         let request = any_request(random, setup, bytes);
         steps.push(Step::Call(Call::Request(Request { rcid, mcid, ..request })));
     }
-    steps.push(write((8, 8, READ_COUNTER | mcid << 8)));
-    steps.push(read(8, MON_CTR_VAL));
-    steps.extend(another_reset(random, setup));
+    steps.push(Step::write((8, 8, READ_COUNTER | mcid << 8)));
+    steps.push(Step::read(8, MON_CTR_VAL));
+    steps.extend(common::another_reset::<Bandwidth>(random, setup));
     steps
 }

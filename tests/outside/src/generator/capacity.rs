@@ -2,98 +2,47 @@
 
 mod damage;
 
-use super::common::{self, Write};
-use super::setups::{capacity_in_range, capacity_outside};
+use super::common;
+use super::setups::capacity_outside;
 use super::{Change, Random, Step};
+use crate::controller::Capacity;
 use crate::model::access::{ALLOC_CTL, MON_CTR_VAL, OPERAND};
-use crate::model::capacity::{
-    all_blocks, in_range, table_lengths, well_formed, Call, Event, Setup, State, LAST_EVENT,
-    RECORD_LENGTH,
-};
-use crate::model::registers::{CONFIG_EVENT, CONFIG_LIMIT, READ_COUNTER, READ_LIMIT};
+use crate::model::capacity::{all_blocks, Call, Event, Setup, State, LAST_EVENT};
+use crate::model::registers::{CONFIG_LIMIT, READ_COUNTER, READ_LIMIT};
+use crate::model::{Checked, CommonCall, Sizes};
 
 type Steps = Vec<Step<Call>>;
-
-/// A list begins with any bytes in the record and tables, perhaps a call on these, and a reset.
-pub fn opening(random: &mut Random) -> Steps {
-    let setup = capacity_in_range(random);
-    let mut steps = vec![lend(random, &setup)];
-    if random.percent(30) {
-        steps.push(Step::Call(any_call(random, &setup)));
-    }
-    steps.push(Step::Call(Call::Reset(setup)));
-    steps
-}
-
-/// New memory of a set-up's size with any bytes.
-fn lend(random: &mut Random, setup: &Setup) -> Step<Call> {
-    let mut lengths = vec![RECORD_LENGTH];
-    lengths.extend(table_lengths(setup));
-    let contents = common::any_bytes(random, &lengths);
-    Step::Lend { contents, skew: random.below(8) as usize }
-}
 
 /// Some steps for the state as it is. In a quiet list nobody but the calls changes the memory.
 pub fn scenario(random: &mut Random, state: &State, lengths: &[usize], quiet: bool) -> Steps {
     let setup = state.record.setup;
-    if !in_range(&setup) || lengths[1..] != table_lengths(&setup) || !well_formed(state) {
-        return recovery(random);
+    if state.refusal(lengths, &Call::read(8, 0)) != 0 {
+        return common::recovery::<Capacity>(random);
     }
+    let damage = |random: &mut Random| damage::damage(random, &setup, lengths);
+    let call = |random: &mut Random| any_call(random, &setup);
     // large tables may be read in parts: more of what only refusal 3 can show
     if !quiet && setup.pairs() > 32 && random.percent(40) {
-        return damage::damaged_call(random, &setup, lengths);
+        return common::damaged_call(random, damage, call);
     }
     match random.below(if quiet { 89 } else { 100 }) {
         0..=24 => configuration(random, &setup),
         25..=54 => events(random, state),
         55..=69 => monitoring(random, state),
-        70..=84 => vec![Step::Call(any_call(random, &setup))],
+        70..=84 => vec![Step::Call(call(random))],
         85..=88 => {
-            let call = any_call(random, &setup);
+            let call = call(random);
             vec![common::wrong_length(random, lengths, call)]
         }
-        89..=95 => damage::damaged_call(random, &setup, lengths),
-        96 => damage::kept_damage(random, &setup, lengths),
+        89..=95 => common::damaged_call(random, damage, call),
+        96 => common::kept_damage(random, damage, call),
         97 | 98 => edge_of_counter(random, &setup),
-        _ => another_reset(random, &setup),
+        _ => common::another_reset::<Capacity>(random, &setup),
     }
-}
-
-/// A call on what cannot be used, then a reset that makes all good again.
-fn recovery(random: &mut Random) -> Steps {
-    let setup = capacity_in_range(random);
-    let mut steps = vec![Step::Call(any_call(random, &setup))];
-    if random.percent(60) {
-        steps.push(lend(random, &setup));
-        steps.push(Step::Call(Call::Reset(setup)));
-    }
-    steps
-}
-
-/// A reset: of the same size, of another one with or without new memory, or out of range.
-pub fn another_reset(random: &mut Random, setup: &Setup) -> Steps {
-    let other = capacity_in_range(random);
-    match random.below(4) {
-        0 => vec![Step::Call(Call::Reset(*setup))],
-        1 => vec![Step::Call(Call::Reset(other))],
-        2 => vec![Step::Call(Call::Reset(capacity_outside(random)))],
-        _ => {
-            let call = Step::Call(any_call(random, &other));
-            vec![lend(random, &other), call, Step::Call(Call::Reset(other))]
-        }
-    }
-}
-
-fn write((size, offset, value): Write) -> Step<Call> {
-    Step::Call(Call::Write { size, offset, value })
-}
-
-fn read(size: u64, offset: u64) -> Step<Call> {
-    Step::Call(Call::Read { size, offset })
 }
 
 /// Any call, with arguments of every kind.
-fn any_call(random: &mut Random, setup: &Setup) -> Call {
+pub fn any_call(random: &mut Random, setup: &Setup) -> Call {
     let (size, offset, value) = match random.below(7) {
         0 => {
             let (size, offset) = common::access(random);
@@ -110,10 +59,7 @@ fn any_call(random: &mut Random, setup: &Setup) -> Call {
 }
 
 fn any_event(random: &mut Random, setup: &Setup) -> Event {
-    // few RCIDs have blocks, so low numbers come more often
-    let rcid =
-        if random.percent(40) { random.below(setup.nr.min(3)) } else { random.index(setup.nr) };
-    let at = if random.percent(90) { random.below(setup.na) } else { random.number() };
+    let (rcid, at) = common::any_pair(random, setup);
     Event { rcid, mcid: random.index(setup.nm), at, block: random.index(setup.ncblks) }
 }
 
@@ -123,20 +69,20 @@ fn configuration(random: &mut Random, setup: &Setup) -> Steps {
     let at = random.below(setup.na);
     let mask = any_mask(random, setup);
     let mut steps = match random.below(4) {
-        0 => vec![write((4, OPERAND, mask & 0xFFFF_FFFF))],
-        1 => vec![write((4, OPERAND + 4, mask >> 32))],
-        _ => vec![write((8, OPERAND, mask))],
+        0 => vec![Step::write((4, OPERAND, mask & 0xFFFF_FFFF))],
+        1 => vec![Step::write((4, OPERAND + 4, mask >> 32))],
+        _ => vec![Step::write((8, OPERAND, mask))],
     };
-    steps.push(write(common::alloc_ctl(random, CONFIG_LIMIT, rcid, at)));
+    steps.push(Step::write(common::alloc_ctl(random, CONFIG_LIMIT, rcid, at)));
     if random.percent(30) {
-        steps.push(read(8, ALLOC_CTL));
+        steps.push(Step::read(8, ALLOC_CTL));
     }
     if random.percent(40) {
         let other = random.below(setup.nr);
         let rcid = random.pick(&[rcid, rcid, other]);
-        steps.push(write(common::alloc_ctl(random, READ_LIMIT, rcid, at)));
+        steps.push(Step::write(common::alloc_ctl(random, READ_LIMIT, rcid, at)));
         let half = random.pick(&[(8, OPERAND), (4, OPERAND), (4, OPERAND + 4)]);
-        steps.push(read(half.0, half.1));
+        steps.push(Step::read(half.0, half.1));
     }
     steps
 }
@@ -168,25 +114,11 @@ fn events(random: &mut Random, state: &State) -> Steps {
 /// Sets a counter's event, makes fills and evictions that it may count, and reads it.
 fn monitoring(random: &mut Random, state: &State) -> Steps {
     let setup = &state.record.setup;
-    if random.percent(30) {
-        let value = common::any_mon_ctl(random, setup.na, setup.nm, LAST_EVENT);
-        return vec![write(value), read(8, MON_CTR_VAL)];
-    }
-    let mcid = random.below(setup.nm);
-    let fields = common::event_fields(random, setup.na, LAST_EVENT);
-    let mut steps = vec![write(common::mon_ctl(random, CONFIG_EVENT, mcid, fields))];
-    for mut step in events(random, state) {
-        if let Step::Call(Call::Fill(event) | Call::Evict(event)) = &mut step {
-            if random.percent(80) {
-                event.mcid = mcid;
-            }
-        }
-        steps.push(step);
-    }
-    let fields = common::event_fields(random, setup.na, LAST_EVENT);
-    steps.push(write(common::mon_ctl(random, READ_COUNTER, mcid, fields)));
-    steps.push(read(8, MON_CTR_VAL));
-    steps
+    let calls = |random: &mut Random| events(random, state);
+    common::monitoring(random, setup, LAST_EVENT, calls, |call| match call {
+        Call::Fill(event) | Call::Evict(event) => &mut event.mcid,
+        _ => unreachable!("fills and evictions alone"),
+    })
 }
 
 /// Puts a counter at or near one of its ends into the lent table, as a caller may.
@@ -202,8 +134,8 @@ fn edge_of_counter(random: &mut Random, setup: &Setup) -> Steps {
         let call = if random.percent(50) { Call::Fill(event) } else { Call::Evict(event) };
         steps.push(Step::Call(call));
     }
-    steps.push(write((8, 8, READ_COUNTER | mcid << 8)));
-    steps.push(read(8, MON_CTR_VAL));
+    steps.push(Step::write((8, 8, READ_COUNTER | mcid << 8)));
+    steps.push(Step::read(8, MON_CTR_VAL));
     if random.percent(70) {
         steps.push(Step::Call(Call::Reset(*setup)));
     }

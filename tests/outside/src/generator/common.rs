@@ -1,8 +1,94 @@
 //! Pieces of calls that both controllers share.
 
 use super::{Change, Kind, Random, Step};
-use crate::model::access::{ALLOC_CTL, MON_CTL};
-use crate::model::registers::{AT, ATV, EVT_ID, MCID, OP, RCID};
+use crate::controller::Controller;
+use crate::model::access::{ALLOC_CTL, MON_CTL, MON_CTR_VAL};
+use crate::model::registers::{AT, ATV, CONFIG_EVENT, EVT_ID, MCID, OP, RCID, READ_COUNTER};
+use crate::model::{Checked, CommonCall, Sizes};
+
+/// A list begins with any bytes in the record and tables, perhaps a call on these, and a reset.
+pub fn opening<C: Controller>(random: &mut Random) -> Vec<Step<C::Call>> {
+    let setup = C::setup_in_range(random);
+    let mut steps = vec![lend::<C>(random, &setup)];
+    if random.percent(30) {
+        steps.push(Step::Call(C::any_call(random, &setup)));
+    }
+    steps.push(reset::<C>(setup));
+    steps
+}
+
+fn reset<C: Controller>(setup: C::Setup) -> Step<C::Call> {
+    Step::Call(C::Call::reset(setup))
+}
+
+/// New memory of a set-up's size with any bytes.
+fn lend<C: Controller>(random: &mut Random, setup: &C::Setup) -> Step<C::Call> {
+    let contents = any_bytes(random, &C::State::lengths(setup));
+    Step::Lend { contents, skew: random.below(8) as usize }
+}
+
+/// A call on what cannot be used, then a reset that makes all good again.
+pub fn recovery<C: Controller>(random: &mut Random) -> Vec<Step<C::Call>> {
+    let setup = C::setup_in_range(random);
+    let mut steps = vec![Step::Call(C::any_call(random, &setup))];
+    if random.percent(60) {
+        steps.push(lend::<C>(random, &setup));
+        steps.push(reset::<C>(setup));
+    }
+    steps
+}
+
+/// A reset: of the same size, of another one with or without new memory, or out of range.
+pub fn another_reset<C: Controller>(random: &mut Random, setup: &C::Setup) -> Vec<Step<C::Call>> {
+    let other = C::setup_in_range(random);
+    match random.below(4) {
+        0 => vec![reset::<C>(*setup)],
+        1 => vec![reset::<C>(other)],
+        2 => vec![reset::<C>(C::setup_outside(random))],
+        _ => {
+            let call = Step::Call(C::any_call(random, &other));
+            vec![lend::<C>(random, &other), call, reset::<C>(other)]
+        }
+    }
+}
+
+/// RCID and AT of a request or cache event. Few RCIDs are set up, so low numbers come more often.
+pub fn any_pair(random: &mut Random, sizes: &impl Sizes) -> (u64, u64) {
+    let nr = sizes.nr();
+    let rcid = if random.percent(40) { random.below(nr.min(3)) } else { random.index(nr) };
+    let at = if random.percent(90) { random.below(sizes.na()) } else { random.number() };
+    (rcid, at)
+}
+
+/// Sets a counter's event, makes calls that it may count, most of them for its MCID, and reads it.
+pub fn monitoring<C: CommonCall>(
+    random: &mut Random,
+    sizes: &impl Sizes,
+    last_event: u64,
+    calls: impl FnOnce(&mut Random) -> Vec<Step<C>>,
+    mcid_of: impl Fn(&mut C) -> &mut u64,
+) -> Vec<Step<C>> {
+    let (na, nm) = (sizes.na(), sizes.nm());
+    if random.percent(30) {
+        let value = any_mon_ctl(random, na, nm, last_event);
+        return vec![Step::write(value), Step::read(8, MON_CTR_VAL)];
+    }
+    let mcid = random.below(nm);
+    let fields = event_fields(random, na, last_event);
+    let mut steps = vec![Step::write(mon_ctl(random, CONFIG_EVENT, mcid, fields))];
+    for mut step in calls(random) {
+        if let Step::Call(call) = &mut step {
+            if random.percent(80) {
+                *mcid_of(call) = mcid;
+            }
+        }
+        steps.push(step);
+    }
+    let fields = event_fields(random, na, last_event);
+    steps.push(Step::write(mon_ctl(random, READ_COUNTER, mcid, fields)));
+    steps.push(Step::read(8, MON_CTR_VAL));
+    steps
+}
 
 /// The arguments of a write: size, offset and value.
 pub type Write = (u64, u64, u64);
@@ -126,6 +212,31 @@ pub fn wrong_length<C>(random: &mut Random, lengths: &[usize], call: C) -> Step<
         _ => right * 2,
     };
     Step::WrongLength { region, length, call }
+}
+
+/// One call on damaged memory; where it is refused the damage is undone.
+pub fn damaged_call<C>(
+    random: &mut Random,
+    damage: impl Fn(&mut Random) -> Change,
+    call: impl Fn(&mut Random) -> C,
+) -> Vec<Step<C>> {
+    let changes = vec![damage(random)];
+    vec![Step::Damaged { changes, call: call(random) }]
+}
+
+/// Damage that stays, and calls on it; the next scenario finds what is left.
+pub fn kept_damage<C>(
+    random: &mut Random,
+    damage: impl Fn(&mut Random) -> Change,
+    call: impl Fn(&mut Random) -> C,
+) -> Vec<Step<C>> {
+    let count = random.between(1, 2);
+    let changes = (0..count).map(|_| damage(random)).collect();
+    let mut steps = vec![Step::Change(changes)];
+    for _ in 0..random.between(1, 4) {
+        steps.push(Step::Call(call(random)));
+    }
+    steps
 }
 
 /// One bit anywhere in the record or a table.

@@ -2,9 +2,11 @@
 
 mod spoil;
 
-use super::bandwidth::{another_reset, any_call, scenario};
+use super::another_reset;
+use super::bandwidth::{any_call, scenario};
 use super::setups::{bandwidth_in_range, bandwidth_outside};
 use super::{Random, Step};
+use crate::controller::Bandwidth;
 use crate::model::bandwidth::{Call, Request, Setup, State};
 use crate::model::listing::{lengths, Listing};
 use spoil::spoil;
@@ -68,7 +70,7 @@ fn calls(random: &mut Random, state: Option<&State>) -> Vec<Call> {
     };
     let setup = &state.record.setup;
     let steps = match random.below(30) {
-        0 => another_reset(random, setup),
+        0 => another_reset::<Bandwidth>(random, setup),
         _ => scenario(random, state, &lengths(setup), true),
     };
     let call = |step| match step {

@@ -1,6 +1,7 @@
 //! One step of a list: a call, or what happens to the lent memory between calls.
 
 use crate::memory::Memory;
+use crate::model::CommonCall;
 
 #[derive(Clone, Debug)]
 pub enum Step<C> {
@@ -23,6 +24,17 @@ pub enum Step<C> {
         contents: Vec<Vec<u8>>,
         skew: usize,
     },
+}
+
+impl<C: CommonCall> Step<C> {
+    /// A write, by size, offset and value.
+    pub fn write((size, offset, value): (u64, u64, u64)) -> Step<C> {
+        Step::Call(C::write(size, offset, value))
+    }
+
+    pub fn read(size: u64, offset: u64) -> Step<C> {
+        Step::Call(C::read(size, offset))
+    }
 }
 
 /// A change of a lent slice, at a byte of it.

@@ -1,17 +1,14 @@
 //! The ledger of the bandwidth controller and the claims of demand 3.
 
-use super::claim;
+use super::{claim, claim_operand, counter_set};
 use crate::model::access::{self, Part};
 use crate::model::bandwidth::settings::{all_reserved, named_bits, reserved, stored_form, weight};
 use crate::model::bandwidth::{
     alloc_status, counted, first_settings, holder_of, pool_size, Call, Request, Setup, State, CTR,
     LAST_EVENT, OVF,
 };
-use crate::model::monitor::{mon_status, setting_of};
-use crate::model::registers::{
-    alloc_ctl_fields, mon_ctl_fields, AT, CONFIG_EVENT, CONFIG_LIMIT, DONE, EVT_ID, MCID, OP, RCID,
-};
-use crate::model::{access_type, Answer};
+use crate::model::registers::{alloc_ctl_fields, mon_ctl_fields, AT, CONFIG_LIMIT, DONE, OP, RCID};
+use crate::model::{access_type, Sizes};
 
 pub struct Ledger {
     setup: Setup,
@@ -44,8 +41,11 @@ impl Window {
     }
 }
 
-impl Ledger {
-    pub fn after_reset(setup: &Setup) -> Ledger {
+impl super::Ledger for Ledger {
+    type Call = Call;
+    type State = State;
+
+    fn after_reset(setup: &Setup) -> Ledger {
         let words = first_settings(setup);
         Ledger {
             setup: *setup,
@@ -58,16 +58,14 @@ impl Ledger {
         }
     }
 
-    /// Follows one call; a refused one changes nothing.
-    pub fn observe(&mut self, call: &Call, answer: Answer) -> Result<(), String> {
-        if answer.refusal != 0 {
-            return Ok(());
-        }
+    fn accepted(&mut self, call: &Call, answered: u64) -> Result<(), String> {
         match call {
             Call::Reset(setup) => *self = Ledger::after_reset(setup),
-            Call::Read { size, offset } => return self.read(*size, *offset, answer.value),
+            Call::Read { size, offset } => {
+                return claim_operand("bw_alloc", self.bw_alloc, (*size, *offset), answered)
+            }
             Call::Write { size, offset, value } => self.write(*size, *offset, *value),
-            Call::Request(request) => self.request(request, answer.value),
+            Call::Request(request) => self.request(request, answered),
             Call::EndWindow => {
                 self.active = self.configured.clone();
                 self.window = Window::open(&self.setup);
@@ -76,15 +74,14 @@ impl Ledger {
         Ok(())
     }
 
-    /// A read of bw_alloc gives the ledger's.
-    fn read(&self, size: u64, offset: u64, value: u64) -> Result<(), String> {
-        if access::register(offset) != access::OPERAND {
-            return Ok(());
-        }
-        let expected = access::read_part(self.bw_alloc, access::part(size, offset));
-        claim(value == expected, || format!("bw_alloc read {value:#x}, not {expected:#x}"))
+    fn check(&self, state: &State) -> Result<(), String> {
+        self.check_settings(state)?;
+        self.check_window()?;
+        self.check_counters(state)
     }
+}
 
+impl Ledger {
     fn write(&mut self, size: u64, offset: u64, value: u64) {
         if access::part(size, offset) == Part::High {
             return;
@@ -113,14 +110,12 @@ impl Ledger {
 
     /// An operation of mon_ctl: a counter that is set to an event starts again at 0.
     fn monitor(&mut self, fields: u64) {
-        let status = mon_status(fields, self.setup.na, self.setup.nm, LAST_EVENT);
-        if status != DONE || OP.get(fields) != CONFIG_EVENT {
-            return;
-        }
-        let tally = &mut self.tallies[MCID.get(fields) as usize];
-        tally.setting = setting_of(fields);
-        if EVT_ID.get(fields) != 0 {
-            tally.total = Some(0);
+        if let Some(set) = counter_set(fields, &self.setup, LAST_EVENT) {
+            let tally = &mut self.tallies[set.mcid];
+            tally.setting = set.setting;
+            if set.starts {
+                tally.total = Some(0);
+            }
         }
     }
 
@@ -135,13 +130,6 @@ impl Ledger {
         if counted(tally.setting, at, request.kind) {
             tally.total = tally.total.map(|total| total + granted as u128);
         }
-    }
-
-    /// All claims, after any call of the list.
-    pub fn check(&self, state: &State) -> Result<(), String> {
-        self.check_settings(state)?;
-        self.check_window()?;
-        self.check_counters(state)
     }
 
     fn check_settings(&self, state: &State) -> Result<(), String> {
@@ -195,7 +183,9 @@ impl Ledger {
 #[cfg(test)]
 mod tests {
     use super::*;
-    use crate::model::bandwidth::{perform, table_lengths, RECORD_LENGTH};
+    use crate::ledger::Ledger as _;
+    use crate::model::bandwidth::perform;
+    use crate::model::{Answer, Checked};
 
     const SETUP: Setup = Setup { nbwblks: 100, mrbwb: 80, nr: 4, na: 2, nm: 4, q: 64, w: 24 };
 
@@ -225,12 +215,8 @@ mod tests {
         (state, ledger)
     }
 
-    fn lengths() -> Vec<usize> {
-        [RECORD_LENGTH].into_iter().chain(table_lengths(&SETUP)).collect()
-    }
-
     fn make(state: &mut State, ledger: &mut Ledger, call: &Call) -> Result<(), String> {
-        let answer = perform(state, &lengths(), call);
+        let answer = perform(state, &State::lengths(&SETUP), call);
         ledger.observe(call, answer)?;
         ledger.check(state)
     }
@@ -274,7 +260,7 @@ mod tests {
         make(&mut state, &mut ledger, &write(24, 0x101)).unwrap();
         ledger.observe(&Call::EndWindow, Answer::value(0)).unwrap();
         assert!(ledger.check(&state).is_err(), "the state has seen no window end");
-        perform(&mut state, &lengths(), &Call::EndWindow);
+        perform(&mut state, &State::lengths(&SETUP), &Call::EndWindow);
         assert!(ledger.check(&state).is_ok());
     }
 

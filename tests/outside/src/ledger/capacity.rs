@@ -1,17 +1,14 @@
 //! The ledger of the capacity controller and its claims.
 
-use super::claim;
+use super::{claim, claim_operand, counter_set};
 use crate::model::access;
 use crate::model::access::Part;
 use crate::model::capacity::{
     all_blocks, alloc_status, counted, first_masks, Call, Event, Setup, State, CTR, INVALID,
     LAST_EVENT,
 };
-use crate::model::monitor::{mon_status, setting_of};
-use crate::model::registers::{
-    alloc_ctl_fields, mon_ctl_fields, AT, CONFIG_EVENT, CONFIG_LIMIT, DONE, EVT_ID, MCID, OP, RCID,
-};
-use crate::model::{access_type, Answer};
+use crate::model::registers::{alloc_ctl_fields, mon_ctl_fields, AT, CONFIG_LIMIT, DONE, OP, RCID};
+use crate::model::{access_type, Sizes};
 
 pub struct Ledger {
     setup: Setup,
@@ -38,8 +35,11 @@ enum Balance {
     Lost,
 }
 
-impl Ledger {
-    pub fn after_reset(setup: &Setup) -> Ledger {
+impl super::Ledger for Ledger {
+    type Call = Call;
+    type State = State;
+
+    fn after_reset(setup: &Setup) -> Ledger {
         Ledger {
             setup: *setup,
             block_mask: 0,
@@ -48,30 +48,37 @@ impl Ledger {
         }
     }
 
-    /// Follows one call; a refused one changes nothing.
-    pub fn observe(&mut self, call: &Call, answer: Answer) -> Result<(), String> {
-        if answer.refusal != 0 {
-            return Ok(());
-        }
+    fn accepted(&mut self, call: &Call, answered: u64) -> Result<(), String> {
         match call {
             Call::Reset(setup) => *self = Ledger::after_reset(setup),
-            Call::Read { size, offset } => return self.read(*size, *offset, answer.value),
+            Call::Read { size, offset } => {
+                return claim_operand("block_mask", self.block_mask, (*size, *offset), answered)
+            }
             Call::Write { size, offset, value } => self.write(*size, *offset, *value),
-            Call::Fill(event) => return self.fill(event, answer.value),
+            Call::Fill(event) => return self.fill(event, answered),
             Call::Evict(event) => self.evict(event),
         }
         Ok(())
     }
 
-    /// A read of block_mask gives the ledger's.
-    fn read(&self, size: u64, offset: u64, value: u64) -> Result<(), String> {
-        if access::register(offset) != access::OPERAND {
-            return Ok(());
+    fn check(&self, state: &State) -> Result<(), String> {
+        claim(state.masks == self.masks, || "the table of masks".into())?;
+        for (mcid, tally) in self.tallies.iter().enumerate() {
+            let word = state.counters[mcid];
+            let invalid = INVALID.get(word) == 1;
+            let holds = match tally.balance {
+                Balance::Unset => true,
+                Balance::Lost => invalid,
+                Balance::Blocks(blocks) => !invalid && CTR.get(word) == blocks,
+            };
+            let expected = tally.balance;
+            claim(holds, || format!("counter {mcid} is {word:#x}, expected {expected:?}"))?;
         }
-        let expected = access::read_part(self.block_mask, access::part(size, offset));
-        claim(value == expected, || format!("block_mask read {value:#x}, not {expected:#x}"))
+        Ok(())
     }
+}
 
+impl Ledger {
     fn write(&mut self, size: u64, offset: u64, value: u64) {
         let part = access::part(size, offset);
         match (access::register(offset), part) {
@@ -99,14 +106,12 @@ impl Ledger {
     }
 
     fn monitor(&mut self, fields: u64) {
-        let status = mon_status(fields, self.setup.na, self.setup.nm, LAST_EVENT);
-        if status != DONE || OP.get(fields) != CONFIG_EVENT {
-            return;
-        }
-        let tally = &mut self.tallies[MCID.get(fields) as usize];
-        tally.setting = setting_of(fields);
-        if EVT_ID.get(fields) != 0 {
-            tally.balance = Balance::Blocks(0);
+        if let Some(set) = counter_set(fields, &self.setup, LAST_EVENT) {
+            let tally = &mut self.tallies[set.mcid];
+            tally.setting = set.setting;
+            if set.starts {
+                tally.balance = Balance::Blocks(0);
+            }
         }
     }
 
@@ -136,29 +141,14 @@ impl Ledger {
             }
         }
     }
-
-    /// All claims, after any call of the list.
-    pub fn check(&self, state: &State) -> Result<(), String> {
-        claim(state.masks == self.masks, || "the table of masks".into())?;
-        for (mcid, tally) in self.tallies.iter().enumerate() {
-            let word = state.counters[mcid];
-            let invalid = INVALID.get(word) == 1;
-            let holds = match tally.balance {
-                Balance::Unset => true,
-                Balance::Lost => invalid,
-                Balance::Blocks(blocks) => !invalid && CTR.get(word) == blocks,
-            };
-            let expected = tally.balance;
-            claim(holds, || format!("counter {mcid} is {word:#x}, expected {expected:?}"))?;
-        }
-        Ok(())
-    }
 }
 
 #[cfg(test)]
 mod tests {
     use super::*;
-    use crate::model::capacity::{perform, table_lengths, RECORD_LENGTH};
+    use crate::ledger::Ledger as _;
+    use crate::model::capacity::perform;
+    use crate::model::{Answer, Checked};
 
     const SETUP: Setup = Setup { ncblks: 8, nr: 4, na: 2, nm: 4, w: 24 };
 
@@ -183,9 +173,7 @@ mod tests {
     }
 
     fn make(state: &mut State, ledger: &mut Ledger, call: &Call) -> Result<(), String> {
-        let mut lengths = vec![RECORD_LENGTH];
-        lengths.extend(table_lengths(&SETUP));
-        let answer = perform(state, &lengths, call);
+        let answer = perform(state, &State::lengths(&SETUP), call);
         ledger.observe(call, answer)?;
         ledger.check(state)
     }

@@ -1,7 +1,6 @@
 //! Accesses of 4 and 8 bytes to the 40 bytes of registers.
 
-/// Where the registers stand.
-pub const CAPABILITIES: u64 = 0;
+/// Where the registers stand; capabilities is at 0.
 pub const MON_CTL: u64 = 8;
 pub const MON_CTR_VAL: u64 = 16;
 pub const ALLOC_CTL: u64 = 24;
@@ -31,11 +30,19 @@ pub fn access_refusal(size: u64, offset: u64) -> u64 {
 }
 
 /// Refusal 6 of a write, or 0.
-pub fn value_refusal(size: u64, value: u64) -> u64 {
+fn value_refusal(size: u64, value: u64) -> u64 {
     if size == 4 && value > u32::MAX as u64 {
         6
     } else {
         0
+    }
+}
+
+/// Refusals 4 to 6 of a write, or 0.
+pub fn write_refusal(size: u64, offset: u64, value: u64) -> u64 {
+    match access_refusal(size, offset) {
+        0 => value_refusal(size, value),
+        number => number,
     }
 }
 
@@ -60,6 +67,11 @@ pub fn read_part(word: u64, part: Part) -> u64 {
         Part::Low => word & 0xFFFF_FFFF,
         Part::High => word >> 32,
     }
+}
+
+/// What an accepted read gives, by the words of the registers in the order of their offsets.
+pub fn read(words: [u64; 5], size: u64, offset: u64) -> u64 {
+    read_part(words[(offset / 8) as usize], part(size, offset))
 }
 
 /// A register's word after a plain write of a part, before any field is held back.

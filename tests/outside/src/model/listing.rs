@@ -1,9 +1,8 @@
 //! The listing: a line of text is a call on the bandwidth controller, and its answer is a line too.
 
-use super::bandwidth::{
-    in_range, perform, table_lengths, Call, Request, Setup, State, RECORD_LENGTH,
-};
+use super::bandwidth::{perform, Call, Request, Setup, State};
 use super::Answer;
+use super::Checked;
 
 /// The most bytes that a line has, its newline not counted.
 pub const LONGEST: usize = 80;
@@ -89,11 +88,11 @@ impl Listing {
 
 /// Tables are lent as the set-up asks; one out of range is refused before any length is looked at.
 pub fn lengths(setup: &Setup) -> Vec<usize> {
-    let mut lengths = vec![RECORD_LENGTH];
-    if in_range(setup) {
-        lengths.extend(table_lengths(setup));
+    if State::in_range(setup) {
+        State::lengths(setup)
+    } else {
+        vec![State::RECORD_LENGTH]
     }
-    lengths
 }
 
 /// A newline or the end of the text ends a line; nothing after the last newline is no line.

@@ -4,16 +4,31 @@
 pub mod access;
 pub mod bandwidth;
 pub mod capacity;
+mod check;
 pub mod field;
 pub mod listing;
 pub mod monitor;
 pub mod registers;
+mod sizes;
+
+pub use check::Checked;
+pub use sizes::Sizes;
 
 /// What a call hands back: the refusal's number, 0 for none, and a value that is 0 after a refusal.
 #[derive(Clone, Copy, Debug, PartialEq, Eq)]
 pub struct Answer {
     pub refusal: u64,
     pub value: u64,
+}
+
+/// The calls that both controllers have.
+pub trait CommonCall {
+    type Setup;
+    fn reset(setup: Self::Setup) -> Self;
+    fn read(size: u64, offset: u64) -> Self;
+    fn write(size: u64, offset: u64, value: u64) -> Self;
+    /// The set-up of a reset.
+    fn as_reset(&self) -> Option<&Self::Setup>;
 }
 
 impl Answer {

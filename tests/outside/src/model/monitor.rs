@@ -4,6 +4,7 @@ use super::field::Field;
 use super::registers::{
     mon_ctl_fields, AT, ATV, CONFIG_EVENT, DONE, EVT_ID, MCID, OP, READ_COUNTER, STATUS,
 };
+use super::Sizes;
 
 // A counter setting, 16 bits.
 const SETTING_EVENT: Field = Field::new(7, 0);
@@ -19,6 +20,35 @@ pub struct Monitor<'a> {
     pub counters: &'a mut [u64],
     pub events: &'a mut [u16],
     pub mon_ctr_val: &'a mut u64,
+}
+
+impl<'a> Monitor<'a> {
+    pub fn new(
+        sizes: &impl Sizes,
+        last_event: u64,
+        counters: &'a mut [u64],
+        events: &'a mut [u16],
+        mon_ctr_val: &'a mut u64,
+    ) -> Monitor<'a> {
+        Monitor { na: sizes.na(), nm: sizes.nm(), last_event, counters, events, mon_ctr_val }
+    }
+}
+
+/// The first part of counters and their settings that is not well formed; `ctr` is a counter's number.
+pub fn monitor_fault(
+    sizes: &impl Sizes,
+    last_event: u64,
+    ctr: Field,
+    counters: &[u64],
+    events: &[u16],
+) -> Option<&'static str> {
+    if counters.iter().any(|&word| ctr.get(word) >> sizes.w() != 0) {
+        Some("a counter")
+    } else if !events.iter().all(|&word| setting_well_formed(word, sizes.na(), last_event)) {
+        Some("a counter setting")
+    } else {
+        None
+    }
 }
 
 /// Performs the operation of a value written to mon_ctl and gives the register's new word.
@@ -82,7 +112,7 @@ pub fn counts_access_type(setting: u16, at: u64) -> bool {
 }
 
 /// Whether a setting is one that CONFIG_EVENT stores.
-pub fn setting_well_formed(setting: u16, na: u64, last_event: u64) -> bool {
+fn setting_well_formed(setting: u16, na: u64, last_event: u64) -> bool {
     if setting == 0 {
         return true;
     }

@@ -1,34 +1,11 @@
 //! Damaged records and tables of the bandwidth controller.
 
 use super::super::common::flipped_bit;
-use super::super::{Change, Random, Step};
-use super::{any_call, Steps};
+use super::super::{Change, Random};
 use crate::model::bandwidth::settings::{all_reserved, reserved};
+use crate::model::bandwidth::slices::{COUNTERS, EVENTS, RECORD, USED};
 use crate::model::bandwidth::{pool_size, Setup, State};
-
-// the slices by number, and the bytes of a word in each
-const RECORD: usize = 0;
-const USED: usize = 3;
-const COUNTERS: usize = 4;
-const EVENTS: usize = 5;
-
-/// One call on damaged memory; where it is refused the damage is undone.
-pub fn damaged_call(random: &mut Random, state: &State, lengths: &[usize]) -> Steps {
-    let changes = vec![damage(random, state, lengths)];
-    let call = any_call(random, &state.record.setup);
-    vec![Step::Damaged { changes, call }]
-}
-
-/// Damage that stays, and calls on it; the next scenario finds what is left.
-pub fn kept_damage(random: &mut Random, state: &State, lengths: &[usize]) -> Steps {
-    let count = random.between(1, 2);
-    let changes = (0..count).map(|_| damage(random, state, lengths)).collect();
-    let mut steps = vec![Step::Change(changes)];
-    for _ in 0..random.between(1, 4) {
-        steps.push(Step::Call(any_call(random, &state.record.setup)));
-    }
-    steps
-}
+use crate::model::Sizes;
 
 /// A flipped bit, or a word overwritten with a value at the end of what is allowed there.
 pub fn damage(random: &mut Random, state: &State, lengths: &[usize]) -> Change {

@@ -5,6 +5,7 @@ use crate::model::bandwidth::settings::{
     all_reserved, is_holder, reserved, MWEIGHT, RBWB, SHARED_AT, USE_SHARED,
 };
 use crate::model::bandwidth::State;
+use crate::model::Sizes;
 
 /// A pair and a value of bw_alloc for it.
 pub fn any_operand(random: &mut Random, state: &State) -> (u64, u64, u64) {

@@ -1,9 +1,9 @@
 //! Damaged records and tables of the capacity controller.
 
 use super::super::common::flipped_bit;
-use super::super::{Change, Random, Step};
-use super::{any_call, Steps};
+use super::super::{Change, Random};
 use crate::model::capacity::{all_blocks, Setup};
+use crate::model::Sizes;
 
 // the slices by number
 const RECORD: usize = 0;
@@ -11,25 +11,8 @@ const MASKS: usize = 1;
 const COUNTERS: usize = 2;
 const EVENTS: usize = 3;
 
-/// One call on damaged memory; where it is refused the damage is undone.
-pub fn damaged_call(random: &mut Random, setup: &Setup, lengths: &[usize]) -> Steps {
-    let changes = vec![damage(random, setup, lengths)];
-    vec![Step::Damaged { changes, call: any_call(random, setup) }]
-}
-
-/// Damage that stays, and calls on it; the next scenario finds what is left.
-pub fn kept_damage(random: &mut Random, setup: &Setup, lengths: &[usize]) -> Steps {
-    let count = random.between(1, 2);
-    let changes = (0..count).map(|_| damage(random, setup, lengths)).collect();
-    let mut steps = vec![Step::Change(changes)];
-    for _ in 0..random.between(1, 4) {
-        steps.push(Step::Call(any_call(random, setup)));
-    }
-    steps
-}
-
 /// A flipped bit, or a word overwritten with a value at the end of what is allowed there.
-fn damage(random: &mut Random, setup: &Setup, lengths: &[usize]) -> Change {
+pub fn damage(random: &mut Random, setup: &Setup, lengths: &[usize]) -> Change {
     match random.below(7) {
         0 | 1 => flipped_bit(random, lengths),
         2 => setup_word(random, setup),

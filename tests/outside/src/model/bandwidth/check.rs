@@ -5,86 +5,61 @@ use super::settings::{
     all_reserved, bad_share, is_sharer, named_bits, reserved, shared_at, stored_form,
 };
 use super::{Call, Record, Setup, State, LAST_EVENT};
-use crate::model::access::{access_refusal, value_refusal};
-use crate::model::monitor::setting_well_formed;
+use crate::model::access::{access_refusal, write_refusal};
+use crate::model::check::Checked;
+use crate::model::monitor::monitor_fault;
 use crate::model::registers::{alloc_ctl_well_formed, mon_ctl_well_formed};
+use crate::model::Sizes;
 
-/// The bytes of a record in the C interface: 12 words.
-pub const RECORD_LENGTH: usize = 96;
+impl Checked for State {
+    type Call = Call;
 
-/// The number of the first check that fails, or 0.
-pub fn refusal(state: &State, lengths: &[usize], call: &Call) -> u64 {
-    let (setup, is_reset) = match call {
-        Call::Reset(setup) => (setup, true),
-        _ => (&state.record.setup, false),
-    };
-    if lengths[0] != RECORD_LENGTH || !in_range(setup) {
-        return 1;
+    /// 12 words.
+    const RECORD_LENGTH: usize = 96;
+
+    fn setup(&self) -> &Setup {
+        &self.record.setup
     }
-    if lengths[1..] != table_lengths(setup) {
-        return 2;
+
+    fn in_range(setup: &Setup) -> bool {
+        setup.sizes_in_range()
+            && (1..=65_535).contains(&setup.nbwblks)
+            && (1..=setup.nbwblks).contains(&setup.mrbwb)
+            && (1..=65_536).contains(&setup.q)
     }
-    if !is_reset && !well_formed(state) {
-        return 3;
+
+    /// The lengths of active, configured, used, counters and events in bytes.
+    fn table_lengths(setup: &Setup) -> Vec<usize> {
+        let words = 4 * setup.pairs();
+        let nm = setup.nm as usize;
+        vec![words, words, words, 8 * nm, 2 * nm]
     }
-    argument_refusal(setup, call)
-}
 
-/// Refusals 4 to 7: those that go by the call's own arguments.
-fn argument_refusal(setup: &Setup, call: &Call) -> u64 {
-    match call {
-        Call::Read { size, offset } => access_refusal(*size, *offset),
-        Call::Write { size, offset, value } => match access_refusal(*size, *offset) {
-            0 => value_refusal(*size, *value),
-            number => number,
-        },
-        Call::Request(request) if request.rcid >= setup.nr || request.mcid >= setup.nm => 7,
-        _ => 0,
+    fn fault(&self) -> Option<&'static str> {
+        let setup = &self.record.setup;
+        if !registers_well_formed(&self.record) {
+            Some("a register")
+        } else if !settings_well_formed(setup, &self.configured) {
+            Some("a configured setting")
+        } else if !settings_well_formed(setup, &self.active) {
+            Some("a setting in force")
+        } else if !used_well_formed(self) {
+            Some("used bytes")
+        } else if self.record.pool_given > pool_size(setup, &self.active) {
+            Some("the pool's bytes")
+        } else {
+            monitor_fault(setup, LAST_EVENT, CTR, &self.counters, &self.events)
+        }
     }
-}
 
-/// Whether every number of a set-up lies in its range.
-pub fn in_range(setup: &Setup) -> bool {
-    (1..=256).contains(&setup.nr)
-        && (1..=8).contains(&setup.na)
-        && (1..=256).contains(&setup.nm)
-        && (24..=62).contains(&setup.w)
-        && (1..=65_535).contains(&setup.nbwblks)
-        && (1..=setup.nbwblks).contains(&setup.mrbwb)
-        && (1..=65_536).contains(&setup.q)
-}
-
-/// The lengths of active, configured, used, counters and events in bytes.
-pub fn table_lengths(setup: &Setup) -> [usize; 5] {
-    let words = 4 * setup.pairs();
-    let nm = setup.nm as usize;
-    [words, words, words, 8 * nm, 2 * nm]
-}
-
-/// Document 01's "lawful": what the controller's own calls can leave, and no bit elsewhere.
-pub fn well_formed(state: &State) -> bool {
-    fault(state).is_none()
-}
-
-/// The first part of a state that is not well formed.
-pub fn fault(state: &State) -> Option<&'static str> {
-    let setup = &state.record.setup;
-    if !registers_well_formed(&state.record) {
-        Some("a register")
-    } else if !settings_well_formed(setup, &state.configured) {
-        Some("a configured setting")
-    } else if !settings_well_formed(setup, &state.active) {
-        Some("a setting in force")
-    } else if !used_well_formed(state) {
-        Some("used bytes")
-    } else if state.record.pool_given > pool_size(setup, &state.active) {
-        Some("the pool's bytes")
-    } else if state.counters.iter().any(|&word| CTR.get(word) >> setup.w != 0) {
-        Some("a counter")
-    } else if !state.events.iter().all(|&word| setting_well_formed(word, setup.na, LAST_EVENT)) {
-        Some("a counter setting")
-    } else {
-        None
+    /// Refusals 4 to 7: those that go by the call's own arguments.
+    fn argument_refusal(setup: &Setup, call: &Call) -> u64 {
+        match call {
+            Call::Read { size, offset } => access_refusal(*size, *offset),
+            Call::Write { size, offset, value } => write_refusal(*size, *offset, *value),
+            Call::Request(request) if request.rcid >= setup.nr || request.mcid >= setup.nm => 7,
+            _ => 0,
+        }
     }
 }
 

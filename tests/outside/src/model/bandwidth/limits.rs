@@ -7,6 +7,7 @@ use super::{Setup, State};
 use crate::model::registers::{
     alloc_ctl_fields, AT, CONFIG_LIMIT, DONE, OP, RCID, READ_LIMIT, STATUS,
 };
+use crate::model::Sizes;
 
 /// Stores alloc_ctl's fields and performs the operation. Unless it ends in STATUS 1,
 /// nothing but alloc_ctl changes.

@@ -6,18 +6,28 @@ mod request;
 mod reset;
 pub mod settings;
 
-pub use check::{fault, in_range, table_lengths, well_formed, RECORD_LENGTH};
 pub use limits::alloc_status;
 pub use request::{counted, holder_of, pool_size, CTR, OVF};
 pub use reset::first_settings;
 
 use super::access::{self, Part};
+use super::check::Checked;
 use super::monitor::{write_mon_ctl, Monitor};
 use super::registers::VERSION;
 use super::Answer;
 
 /// Bandwidth events: 0 none, 1 all bytes, 2 reads, 3 writes.
 pub const LAST_EVENT: u64 = 3;
+
+/// The lent slices by number, in the order of the C interface.
+pub mod slices {
+    pub const RECORD: usize = 0;
+    pub const ACTIVE: usize = 1;
+    pub const CONFIGURED: usize = 2;
+    pub const USED: usize = 3;
+    pub const COUNTERS: usize = 4;
+    pub const EVENTS: usize = 5;
+}
 
 /// The numbers that a reset is given.
 #[derive(Clone, Copy, Debug, PartialEq, Eq, Default)]
@@ -33,17 +43,7 @@ pub struct Setup {
     pub w: u64,
 }
 
-impl Setup {
-    /// The number of pairs of RCID and AT.
-    pub fn pairs(&self) -> usize {
-        (self.nr * self.na) as usize
-    }
-
-    /// A pair's place in a table: the AT runs fastest.
-    pub fn place(&self, rcid: u64, at: u64) -> usize {
-        (rcid * self.na + at) as usize
-    }
-}
+super::sizes::common!(Setup, Call);
 
 /// The controller's record.
 #[derive(Clone, Copy, Debug, PartialEq, Eq, Default)]
@@ -92,13 +92,15 @@ pub struct Request {
 
 /// Makes one call. `lengths` are those of the lent slices in bytes: record, then tables in order.
 pub fn perform(state: &mut State, lengths: &[usize], call: &Call) -> Answer {
-    let refusal = check::refusal(state, lengths, call);
+    let refusal = state.refusal(lengths, call);
     if refusal != 0 {
         return Answer::refused(refusal);
     }
     match call {
         Call::Reset(setup) => *state = reset::after_reset(setup),
-        Call::Read { size, offset } => return Answer::value(read(&state.record, *size, *offset)),
+        Call::Read { size, offset } => {
+            return Answer::value(access::read(registers(&state.record), *size, *offset))
+        }
         Call::Write { size, offset, value } => write(state, *size, *offset, *value),
         Call::Request(request) => return Answer::value(request::grant(state, request)),
         Call::EndWindow => end_window(state),
@@ -106,15 +108,10 @@ pub fn perform(state: &mut State, lengths: &[usize], call: &Call) -> Answer {
     Answer::value(0)
 }
 
-fn read(record: &Record, size: u64, offset: u64) -> u64 {
-    let word = match access::register(offset) {
-        access::CAPABILITIES => capabilities(&record.setup),
-        access::MON_CTL => record.mon_ctl,
-        access::MON_CTR_VAL => record.mon_ctr_val,
-        access::ALLOC_CTL => record.alloc_ctl,
-        _ => record.bw_alloc,
-    };
-    access::read_part(word, access::part(size, offset))
+/// The words of the registers in the order of their offsets.
+fn registers(record: &Record) -> [u64; 5] {
+    let capabilities = capabilities(&record.setup);
+    [capabilities, record.mon_ctl, record.mon_ctr_val, record.alloc_ctl, record.bw_alloc]
 }
 
 /// VER 7:0, NBWBLKS 23:8, MRBWB 47:32.
@@ -137,14 +134,8 @@ fn write(state: &mut State, size: u64, offset: u64, value: u64) {
 }
 
 fn monitor(state: &mut State) -> Monitor<'_> {
-    Monitor {
-        na: state.record.setup.na,
-        nm: state.record.setup.nm,
-        last_event: LAST_EVENT,
-        counters: &mut state.counters,
-        events: &mut state.events,
-        mon_ctr_val: &mut state.record.mon_ctr_val,
-    }
+    let State { record, counters, events, .. } = state;
+    Monitor::new(&record.setup, LAST_EVENT, counters, events, &mut record.mon_ctr_val)
 }
 
 fn end_window(state: &mut State) {

@@ -2,9 +2,9 @@
 
 use super::settings::{all_reserved, is_holder, is_sharer, reserved, shared_at, weight};
 use super::{Request, Setup, State};
-use crate::model::access_type;
 use crate::model::field::Field;
 use crate::model::monitor::{counts_access_type, event_of};
+use crate::model::{access_type, Sizes};
 
 pub const CTR: Field = Field::new(61, 0);
 pub const OVF: Field = Field::new(63, 63);

@@ -2,6 +2,7 @@
 
 use super::settings::{MWEIGHT, RBWB, USE_SHARED};
 use super::{Record, Setup, State};
+use crate::model::Sizes;
 
 /// RCID 0 holds MRBWB blocks with weight 1 at AT 0, its other ATs share AT 0, and all else is 0.
 pub fn after_reset(setup: &Setup) -> State {

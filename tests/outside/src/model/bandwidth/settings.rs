@@ -3,6 +3,7 @@
 
 use super::Setup;
 use crate::model::field::Field;
+use crate::model::Sizes;
 
 pub const RBWB: Field = Field::new(15, 0);
 pub const MWEIGHT: Field = Field::new(27, 20);

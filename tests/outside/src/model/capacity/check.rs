@@ -3,41 +3,53 @@
 use super::event::CTR;
 use super::limits::all_blocks;
 use super::{Call, Event, Record, Setup, State, LAST_EVENT};
-use crate::model::access::{access_refusal, value_refusal};
-use crate::model::monitor::setting_well_formed;
+use crate::model::access::{access_refusal, write_refusal};
+use crate::model::check::Checked;
+use crate::model::monitor::monitor_fault;
 use crate::model::registers::{alloc_ctl_well_formed, mon_ctl_well_formed};
+use crate::model::Sizes;
 
-/// The bytes of a record in the C interface: 9 words.
-pub const RECORD_LENGTH: usize = 72;
+impl Checked for State {
+    type Call = Call;
 
-/// The number of the first check that fails, or 0.
-pub fn refusal(state: &State, lengths: &[usize], call: &Call) -> u64 {
-    let (setup, is_reset) = match call {
-        Call::Reset(setup) => (setup, true),
-        _ => (&state.record.setup, false),
-    };
-    if lengths[0] != RECORD_LENGTH || !in_range(setup) {
-        return 1;
-    }
-    if lengths[1..] != table_lengths(setup) {
-        return 2;
-    }
-    if !is_reset && !well_formed(state) {
-        return 3;
-    }
-    argument_refusal(setup, call)
-}
+    /// 9 words.
+    const RECORD_LENGTH: usize = 72;
 
-/// Refusals 4 to 8: those that go by the call's own arguments.
-fn argument_refusal(setup: &Setup, call: &Call) -> u64 {
-    match call {
-        Call::Reset(_) => 0,
-        Call::Read { size, offset } => access_refusal(*size, *offset),
-        Call::Write { size, offset, value } => match access_refusal(*size, *offset) {
-            0 => value_refusal(*size, *value),
-            number => number,
-        },
-        Call::Fill(event) | Call::Evict(event) => event_refusal(setup, event),
+    fn setup(&self) -> &Setup {
+        &self.record.setup
+    }
+
+    fn in_range(setup: &Setup) -> bool {
+        setup.sizes_in_range() && (1..=64).contains(&setup.ncblks)
+    }
+
+    /// The lengths of masks, counters and events in bytes.
+    fn table_lengths(setup: &Setup) -> Vec<usize> {
+        let nm = setup.nm as usize;
+        vec![8 * setup.pairs(), 8 * nm, 2 * nm]
+    }
+
+    /// A mask of 0 is a pair that was never set.
+    fn fault(&self) -> Option<&'static str> {
+        let setup = &self.record.setup;
+        let blocks = all_blocks(setup);
+        if !registers_well_formed(&self.record) {
+            Some("a register")
+        } else if self.masks.iter().any(|&mask| mask & !blocks != 0) {
+            Some("a mask")
+        } else {
+            monitor_fault(setup, LAST_EVENT, CTR, &self.counters, &self.events)
+        }
+    }
+
+    /// Refusals 4 to 8: those that go by the call's own arguments.
+    fn argument_refusal(setup: &Setup, call: &Call) -> u64 {
+        match call {
+            Call::Reset(_) => 0,
+            Call::Read { size, offset } => access_refusal(*size, *offset),
+            Call::Write { size, offset, value } => write_refusal(*size, *offset, *value),
+            Call::Fill(event) | Call::Evict(event) => event_refusal(setup, event),
+        }
     }
 }
 
@@ -48,43 +60,6 @@ fn event_refusal(setup: &Setup, event: &Event) -> u64 {
         8
     } else {
         0
-    }
-}
-
-/// Whether every number of a set-up lies in its range.
-pub fn in_range(setup: &Setup) -> bool {
-    (1..=256).contains(&setup.nr)
-        && (1..=8).contains(&setup.na)
-        && (1..=256).contains(&setup.nm)
-        && (24..=62).contains(&setup.w)
-        && (1..=64).contains(&setup.ncblks)
-}
-
-/// The lengths of masks, counters and events in bytes.
-pub fn table_lengths(setup: &Setup) -> [usize; 3] {
-    let nm = setup.nm as usize;
-    [8 * setup.pairs(), 8 * nm, 2 * nm]
-}
-
-/// Document 01's "lawful". A mask of 0 is a pair that was never set.
-pub fn well_formed(state: &State) -> bool {
-    fault(state).is_none()
-}
-
-/// The first part of a state that is not well formed.
-pub fn fault(state: &State) -> Option<&'static str> {
-    let setup = &state.record.setup;
-    let blocks = all_blocks(setup);
-    if !registers_well_formed(&state.record) {
-        Some("a register")
-    } else if state.masks.iter().any(|&mask| mask & !blocks != 0) {
-        Some("a mask")
-    } else if state.counters.iter().any(|&word| CTR.get(word) >> setup.w != 0) {
-        Some("a counter")
-    } else if !state.events.iter().all(|&word| setting_well_formed(word, setup.na, LAST_EVENT)) {
-        Some("a counter setting")
-    } else {
-        None
     }
 }
 

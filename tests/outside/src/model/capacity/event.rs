@@ -1,9 +1,9 @@
 //! Cache fills and evictions, and the occupancy counters.
 
 use super::{Event, State};
-use crate::model::access_type;
 use crate::model::field::Field;
 use crate::model::monitor::{counts_access_type, event_of};
+use crate::model::{access_type, Sizes};
 
 pub const CTR: Field = Field::new(62, 0);
 pub const INVALID: Field = Field::new(63, 63);

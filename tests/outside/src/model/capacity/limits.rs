@@ -4,6 +4,7 @@ use super::{Setup, State};
 use crate::model::registers::{
     alloc_ctl_fields, AT, CONFIG_LIMIT, DONE, OP, RCID, READ_LIMIT, STATUS,
 };
+use crate::model::Sizes;
 
 /// The mask with every block that the controller has.
 pub fn all_blocks(setup: &Setup) -> u64 {

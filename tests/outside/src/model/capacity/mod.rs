@@ -4,11 +4,11 @@ mod check;
 mod event;
 mod limits;
 
-pub use check::{fault, in_range, table_lengths, well_formed, RECORD_LENGTH};
 pub use event::{counted, CTR, INVALID};
 pub use limits::{all_blocks, alloc_status, first_masks};
 
 use super::access::{self, Part};
+use super::check::Checked;
 use super::monitor::{write_mon_ctl, Monitor};
 use super::registers::VERSION;
 use super::Answer;
@@ -27,17 +27,7 @@ pub struct Setup {
     pub w: u64,
 }
 
-impl Setup {
-    /// The number of pairs of RCID and AT.
-    pub fn pairs(&self) -> usize {
-        (self.nr * self.na) as usize
-    }
-
-    /// A pair's place in a table: the AT runs fastest.
-    pub fn place(&self, rcid: u64, at: u64) -> usize {
-        (rcid * self.na + at) as usize
-    }
-}
+super::sizes::common!(Setup, Call);
 
 /// The controller's record.
 #[derive(Clone, Copy, Debug, PartialEq, Eq, Default)]
@@ -87,13 +77,15 @@ pub struct Event {
 
 /// Makes one call. `lengths` are those of the lent slices in bytes: record, then tables in order.
 pub fn perform(state: &mut State, lengths: &[usize], call: &Call) -> Answer {
-    let refusal = check::refusal(state, lengths, call);
+    let refusal = state.refusal(lengths, call);
     if refusal != 0 {
         return Answer::refused(refusal);
     }
     match call {
         Call::Reset(setup) => *state = after_reset(setup),
-        Call::Read { size, offset } => return Answer::value(read(&state.record, *size, *offset)),
+        Call::Read { size, offset } => {
+            return Answer::value(access::read(registers(&state.record), *size, *offset))
+        }
         Call::Write { size, offset, value } => write(state, *size, *offset, *value),
         Call::Fill(event) => return Answer::value(event::fill(state, event)),
         Call::Evict(event) => event::evict(state, event),
@@ -111,15 +103,10 @@ fn after_reset(setup: &Setup) -> State {
     }
 }
 
-fn read(record: &Record, size: u64, offset: u64) -> u64 {
-    let word = match access::register(offset) {
-        access::CAPABILITIES => capabilities(&record.setup),
-        access::MON_CTL => record.mon_ctl,
-        access::MON_CTR_VAL => record.mon_ctr_val,
-        access::ALLOC_CTL => record.alloc_ctl,
-        _ => record.block_mask,
-    };
-    access::read_part(word, access::part(size, offset))
+/// The words of the registers in the order of their offsets.
+fn registers(record: &Record) -> [u64; 5] {
+    let capabilities = capabilities(&record.setup);
+    [capabilities, record.mon_ctl, record.mon_ctr_val, record.alloc_ctl, record.block_mask]
 }
 
 /// VER 7:0, NCBLKS 23:8; FRCID, bit 24, is 0.
@@ -145,12 +132,6 @@ fn write(state: &mut State, size: u64, offset: u64, value: u64) {
 }
 
 fn monitor(state: &mut State) -> Monitor<'_> {
-    Monitor {
-        na: state.record.setup.na,
-        nm: state.record.setup.nm,
-        last_event: LAST_EVENT,
-        counters: &mut state.counters,
-        events: &mut state.events,
-        mon_ctr_val: &mut state.record.mon_ctr_val,
-    }
+    let State { record, counters, events, .. } = state;
+    Monitor::new(&record.setup, LAST_EVENT, counters, events, &mut record.mon_ctr_val)
 }

@@ -1,0 +1,52 @@
+//! The refusals of both controllers, in checking order.
+
+use super::CommonCall;
+
+/// The set-up of a state's controller.
+type Setup<S> = <<S as Checked>::Call as CommonCall>::Setup;
+
+/// A controller's record and tables as the checks see them.
+pub trait Checked: Sized {
+    type Call: CommonCall;
+
+    /// The bytes of a record in the C interface.
+    const RECORD_LENGTH: usize;
+
+    fn setup(&self) -> &Setup<Self>;
+
+    /// Whether every number of a set-up lies in its range.
+    fn in_range(setup: &Setup<Self>) -> bool;
+
+    /// The lengths of the tables in bytes.
+    fn table_lengths(setup: &Setup<Self>) -> Vec<usize>;
+
+    /// The first part of record and tables that is not well formed. Document 01's "lawful" is what
+    /// the controller's own calls can leave, and no bit elsewhere.
+    fn fault(&self) -> Option<&'static str>;
+
+    /// Refusals 4 and on, which go by the call's own arguments, or 0.
+    fn argument_refusal(setup: &Setup<Self>, call: &Self::Call) -> u64;
+
+    fn well_formed(&self) -> bool {
+        self.fault().is_none()
+    }
+
+    /// The lengths of the lent slices in bytes: record, then tables in order.
+    fn lengths(setup: &Setup<Self>) -> Vec<usize> {
+        [vec![Self::RECORD_LENGTH], Self::table_lengths(setup)].concat()
+    }
+
+    /// The number of the first check that fails, or 0.
+    fn refusal(&self, lengths: &[usize], call: &Self::Call) -> u64 {
+        let setup = call.as_reset().unwrap_or(self.setup());
+        if lengths[0] != Self::RECORD_LENGTH || !Self::in_range(setup) {
+            1
+        } else if lengths[1..] != Self::table_lengths(setup) {
+            2
+        } else if call.as_reset().is_none() && !self.well_formed() {
+            3
+        } else {
+            Self::argument_refusal(setup, call)
+        }
+    }
+}
