@@ -10,7 +10,7 @@ use Rattle.access.specs.Access as access
 use Rattle.access.specs.Pairs.{pair, knownAt}
 use Rattle.access.proofs.Checks.{none-holds}
 use Rattle.runs.proofs.Steps.{step-by, unrefused, done-by}
-use Rattle.runs.proofs.Checks.{passed-arguments}
+use Rattle.runs.proofs.Checks.{passed-own}
 use Rattle.allocation.specs.Allocation.{rcidOf, atOf}
 use Rattle.monitor.specs.Monitor.{mcidOf, writeMon, counted}
 use Rattle.monitor.specs.Bytes.{lastEvent, countsRequest, added}
@@ -122,7 +122,7 @@ module _ (s : State) (rcid mcid at kind bytes : ℕ) where
   known-pair r g e =
       let t : T (accepted (step s (request rcid mcid at kind bytes) .answer)) = rw e tt in
       let z = unrefused accepting s (request rcid mcid at kind bytes) t in
-      let f = none-holds 0 (argumentChecks (s .setup) (request rcid mcid at kind bytes)) 0 tt (passed-arguments checking s (request rcid mcid at kind bytes) tt z) .0 in
+      let f = none-holds 0 (argumentChecks (s .setup) (request rcid mcid at kind bytes)) 0 tt (passed-own checking s (request rcid mcid at kind bytes) tt z) .0 in
       record {
         ranges = r;
         rcid-in = nleb→lt (s .setup .nr) rcid (nor-l (leb (s .setup .nr) rcid) (leb (s .setup .nm) mcid) (f .0));
