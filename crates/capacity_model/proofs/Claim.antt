@@ -13,7 +13,7 @@ use Rattle.capacity_model.specs.Calls.{Call, reset, read, write, fill, d
 use Rattle.capacity_model.specs.Model.{State, register, readAt, fillAllowed, step}
 use Rattle.capacity_model.specs.Ledger.{Ledger, started}
 use Rattle.capacity_model.specs.Runs.{stateAfter, ledgerAfter}
-use Rattle.capacity_model.specs.Claim.{Stands, Claim, Claims}
+use Rattle.capacity_model.specs.Claim.{Stands, Moment, Claims}
 use Rattle.capacity_model.proofs.Invariant.{Inv}
 use Rattle.capacity_model.proofs.Steps.{accepting, value-is, allowed-is}
 use Rattle.capacity_model.proofs.Lists.{inv-first, inv-after}
@@ -35,25 +35,28 @@ module _ (s : State) (su : Setup) (e : step s (reset su) .answer ≡ done) where
       → Back (λ s. s .setup) (λ u. u .nr) (λ u. u .na) (λ s. s .alloc .masks) (ledgerAfter s su before .setup) p (stateAfter s su (before ++ c ∷ between))
   back before between c p k = stands (standing accepting setting) reset started s su (inv-first s su e) before between c p (k .made) (k .kept)
 
-  claim : (cs : List Call) → Claim s su cs
-  claim cs = record {
-    masks = λ before after q. sym (ap (λ (k : Ledger). k .masks) (inv-after s su e before .same));
-    reads = λ before after size offset v q o a. mask-read (stateAfter s su before) (ledgerAfter s su before) (inv-after s su e before) size offset v o a;
-    fills = λ before after rcid mcid at block b q a. fill-is (stateAfter s su before) (ledgerAfter s su before) (inv-after s su e before) rcid mcid at block b a;
-    kept = λ before between after c p q k.
-        let b = back before between c p k in
-        rw (ap (λ (x : Setup). x .na) (b .same)) at (b .stands .word);
-    readBack = λ before between after c p size v size′ offset x q n k o er ea a r.
-        let l = before ++ c ∷ between in
-        let w = write size 24 v in
-        let b = back before between c p k in
-        let i = inv-after s su e (l ++ w ∷ []) in
-        mask-read (stateAfter s su (l ++ w ∷ [])) (ledgerAfter s su (l ++ w ∷ [])) i size′ offset x n r
-        ∙ ap (access.part size′ offset)
-        (ap (λ (k : Ledger). k .mask) (i .same)
-        ∙ ap (λ (y : State). y .alloc .mask) (state-one step reset s su l w)
-        ∙ read-back (stateAfter s su l) p (b .stands) size v o er (ap (λ (x : Setup). atOf (x .na) v) (b .same) ∙ ea) a);
-  }
+  moment : (before : List Call) → Moment s su before
+  moment before =
+      let now = stateAfter s su before in
+      let l = ledgerAfter s su before in
+      let i = inv-after s su e before in
+      record {
+        masks = sym (ap (λ (k : Ledger). k .masks) (i .same));
+        reads = mask-read now l i;
+        fills = fill-is now l i;
+        kept = λ earlier between c p q k.
+            let b = back earlier between c p k in
+            rw q (rw (ap (λ (x : Setup). x .na) (b .same)) at (b .stands .word));
+        readBack = λ earlier between c p size v size′ offset x q k n o er ea a r.
+            let w = write size 24 v in
+            let b = back earlier between c p k in
+            let j = inv-after s su e (before ++ w ∷ []) in
+            mask-read (stateAfter s su (before ++ w ∷ [])) (ledgerAfter s su (before ++ w ∷ [])) j size′ offset x n r
+            ∙ ap (access.part size′ offset)
+            (ap (λ (k : Ledger). k .mask) (j .same)
+            ∙ ap (λ (y : State). y .alloc .mask) (state-one step reset s su before w)
+            ∙ read-back now p (rw q (b .stands)) size v o er (rw q (ap (λ (x : Setup). atOf (x .na) v) (b .same)) ∙ ea) a);
+      }
 
 pub claims : Claims
-claims = record { always = λ s su cs e. claim s su e cs }
+claims = record { always = λ s su cs e. record { moments = λ before after q. moment s su e before } }

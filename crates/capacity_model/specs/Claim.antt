@@ -12,7 +12,7 @@ use Rattle.access.specs.Access as access
 use Rattle.access.specs.Checks as checks
 use Rattle.access.specs.Pairs.{wordAt, knownAt, Setting}
 use Rattle.allocation.specs.Allocation.{configLimit, readLimit, opOf, rcidOf, atOf}
-use Rattle.capacity_model.specs.Rules.{Setup, hasBlock, allocDone}
+use Rattle.capacity_model.specs.Rules.{Setup, hasBlock, allocDone, limitOf}
 use Rattle.capacity_model.specs.Calls.{Call, reset, read, write, fill, evict, done, value, allowed}
 use Rattle.capacity_model.specs.Model.{State, kindOf, step}
 use Rattle.capacity_model.specs.Ledger.{Event, Ledger, accepted, note}
@@ -26,7 +26,7 @@ settingsBy l (reset su) = []
 settingsBy l (read size offset) = []
 settingsBy l (write size offset v) =
     if access.writesLow offset access.allocCtl && allocDone (l .setup) (l .mask) configLimit v
-    then record { rcid = rcidOf v; at = atOf (l .setup .na) v; word = l .mask } ∷ [] else []
+    then limitOf (l .setup) (l .mask) v ∷ [] else []
 settingsBy l (fill rcid mcid at block) = []
 settingsBy l (evict rcid mcid at block) = []
 
@@ -52,30 +52,29 @@ pub record Stands (s : State) (su : Setup) (before between : List Call) (c : Cal
   pub made : List·Memᴰ p (settings (ledgerAfter s su before) (eventAfter s su before c))
   pub kept : T (untouched (p .rcid) (p .at) (ledgerAfter s su (before ++ c ∷ [])) (events step (stateAfter s su (before ++ c ∷ [])) between))
 
-pub record Claim (s : State) (su : Setup) (cs : List Call) : Type 0 where
-  -- at each moment all masks are the ledger's
-  pub masks : (before after : List Call) → cs ≡ before ++ after
-      → stateAfter s su before .alloc .masks ≡ ledgerAfter s su before .masks
-  -- every accepted read of block_mask, whole or either half, is the ledger's
-  pub reads : (before after : List Call) (size offset v : ℕ) → cs ≡ before ++ read size offset ∷ after
-      → access.registerAt offset ≡ access.operand → answerAfter s su before (read size offset) ≡ value v
+-- what holds after the calls before, which begin the list
+pub record Moment (s : State) (su : Setup) (before : List Call) : Type 0 where
+  -- all masks are the ledger's
+  pub masks : stateAfter s su before .alloc .masks ≡ ledgerAfter s su before .masks
+  -- an accepted read of block_mask, whole or either half, is the ledger's
+  pub reads : (size offset v : ℕ) → access.registerAt offset ≡ access.operand → answerAfter s su before (read size offset) ≡ value v
       → v ≡ access.part size offset (ledgerAfter s su before .mask)
   -- a fill is allowed exactly where the pair's mask, by the ledger, has the block
-  pub fills : (before after : List Call) (rcid mcid at block : ℕ) (b : Bool) → cs ≡ before ++ fill rcid mcid at block ∷ after
-      → answerAfter s su before (fill rcid mcid at block) ≡ allowed b
+  pub fills : (rcid mcid at block : ℕ) (b : Bool) → answerAfter s su before (fill rcid mcid at block) ≡ allowed b
       → b ≡ hasBlock (wordAt (ledgerAfter s su before .setup .na) (ledgerAfter s su before .masks) rcid (knownAt (ledgerAfter s su before .setup .na) at)) block
-  -- an accepted mask stays in the table
-  pub kept : (before between after : List Call) (c : Call) (p : Setting) → cs ≡ before ++ c ∷ between ++ after
-      → Stands s su before between c p
-      → wordAt (ledgerAfter s su before .setup .na) (stateAfter s su (before ++ c ∷ between) .alloc .masks) (p .rcid) (p .at) ≡ p .word
+  -- an accepted mask that stands is in the table
+  pub kept : (earlier between : List Call) (c : Call) (p : Setting) → before ≡ earlier ++ c ∷ between → Stands s su earlier between c p
+      → wordAt (ledgerAfter s su earlier .setup .na) (stateAfter s su before .alloc .masks) (p .rcid) (p .at) ≡ p .word
   -- and reads back through a READ_LIMIT and a read of block_mask, whole or either half
-  pub readBack : (before between after : List Call) (c : Call) (p : Setting) (size v size′ offset x : ℕ)
-      → cs ≡ before ++ c ∷ between ++ write size (8 * access.allocCtl) v ∷ read size′ offset ∷ after
-      → access.registerAt offset ≡ access.operand → Stands s su before between c p
-      → opOf v ≡ readLimit → rcidOf v ≡ p .rcid → atOf (ledgerAfter s su before .setup .na) v ≡ p .at
-      → T (accepted (answerAfter s su (before ++ c ∷ between) (write size (8 * access.allocCtl) v)))
-      → answerAfter s su (before ++ c ∷ between ++ write size (8 * access.allocCtl) v ∷ []) (read size′ offset) ≡ value x
-      → x ≡ access.part size′ offset (p .word)
+  pub readBack : (earlier between : List Call) (c : Call) (p : Setting) (size v size′ offset x : ℕ) → before ≡ earlier ++ c ∷ between
+      → Stands s su earlier between c p → access.registerAt offset ≡ access.operand
+      → opOf v ≡ readLimit → rcidOf v ≡ p .rcid → atOf (ledgerAfter s su earlier .setup .na) v ≡ p .at
+      → T (accepted (answerAfter s su before (write size (8 * access.allocCtl) v)))
+      → answerAfter s su (before ++ write size (8 * access.allocCtl) v ∷ []) (read size′ offset) ≡ value x → x ≡ access.part size′ offset (p .word)
+
+-- at each moment of the list
+pub record Claim (s : State) (su : Setup) (cs : List Call) : Type 0 where
+  pub moments : (before after : List Call) → cs ≡ before ++ after → Moment s su before
 
 pub record Claims : Type 0 where
   pub always : (s : State) (su : Setup) (cs : List Call) → step s (reset su) .answer ≡ done → Claim s su cs

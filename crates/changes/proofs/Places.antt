@@ -25,7 +25,7 @@ changed-if : (b : Bool) (i : ℕ) (t : List ℕ) (x : ℕ) → OnlyAt i t (cond 
 changed-if b i t x = cases (λ c. OnlyAt i t (cond c (set t i x) t)) b (λ _. changed-at i t x) (λ _. unchanged i t)
 
 -- CONFIG_LIMIT: at the pair that it names
-pub limit-at : (nr na : ℕ) (bad : Bool) (table : List ℕ) (word v : ℕ) → OnlyAt (pair na (rcidOf v) (atOf na v)) table (tableAfter nr na bad table word v)
+pub limit-at : (nr na : ℕ) (bad : Bool) (table : List ℕ) (word v : ℕ) → OnlyAt (pair na (rcidOf v) (atOf na v)) table (tableAfter nr na bad table (set table (pair na (rcidOf v) (atOf na v)) word) v)
 unfolding tableAfter
 limit-at nr na bad table word v = changed-if (done nr na bad configLimit v) (pair na (rcidOf v) (atOf na v)) table word
 
