@@ -23,7 +23,7 @@ sets-own true q =
     (λ t. tt, λ t. or-l (r && a) false (and-in r a (eqb-in (q .rcid) (q .rcid) refl) (eqb-in (q .at) (q .at) refl)))
 sets-own false q = (λ t. t, λ t. t)
 
-module _ (nr na : ℕ) (bad : Bool) (v x : ℕ) (e : x ≡ allocWord na v (status nr na bad v)) where
+module _ (nr na : ℕ) (bad : Bool) (v x : ℕ) (e : x ≡ allocWord na v 0 (status nr na bad v)) where
   pub read-fields : unpack allocCtl x ≡ 0 ∷ status nr na bad v ∷ rcidOf v ∷ atOf na v ∷ opOf v ∷ []
   unfolding allocWord rcidOf atOf opOf
   read-fields = ap (unpack allocCtl) e ∙ allocCtl-fields na v (status nr na bad v) (status-lt nr na bad v)

@@ -13,7 +13,7 @@ use Rattle.access.specs.Refusals.{numberOf}
 use Rattle.access.proofs.Refusals.{number-pos}
 use Rattle.access.specs.declared.Refusal.{Refusal}
 use Rattle.access.specs.declared.Refusal.the-variants.{Identifier}
-use Rattle.access.specs.Access.{readChecks, writeChecks}
+use Rattle.access.specs.Access.{registersEnd, readChecks, writeChecks}
 use Rattle.access.specs.Pairs.{knownAt}
 use Rattle.tables.specs.Below.{Small}
 use Rattle.tables.proofs.Tests.{nor-l, of-true, of-false}
@@ -45,19 +45,19 @@ module _ (s : State) (c : Call) (n : T (not (isReset c))) where
 -- ---- each call
 
 module _ {s : State} {t : Totals} (p : Passes s t) where
-  pub read-refused : (size offset : ℕ) (why : Refusal) → numberOf why ≡ first (readChecks size offset) 0 → outcome (refused (numberOf why)) s ≡ step s (read size offset)
+  pub read-refused : (size offset : ℕ) (why : Refusal) → numberOf why ≡ first (readChecks registersEnd size offset) 0 → outcome (refused (numberOf why)) s ≡ step s (read size offset)
   unfolding argumentChecks
   read-refused size offset why e = call-refused s (read size offset) tt p why (sym e)
 
-  pub read-done : (size offset v : ℕ) → 0 ≡ first (readChecks size offset) 0 → v ≡ readAt s size offset → outcome (value v) s ≡ step s (read size offset)
+  pub read-done : (size offset v : ℕ) → 0 ≡ first (readChecks registersEnd size offset) 0 → v ≡ readAt s size offset → outcome (value v) s ≡ step s (read size offset)
   unfolding argumentChecks perform
   read-done size offset v e q = call-done s (read size offset) tt p (sym e) _ (rw q refl)
 
-  pub write-refused : (size offset v : ℕ) (why : Refusal) → numberOf why ≡ first (writeChecks size offset v) 0 → outcome (refused (numberOf why)) s ≡ step s (write size offset v)
+  pub write-refused : (size offset v : ℕ) (why : Refusal) → numberOf why ≡ first (writeChecks registersEnd size offset v) 0 → outcome (refused (numberOf why)) s ≡ step s (write size offset v)
   unfolding argumentChecks
   write-refused size offset v why e = call-refused s (write size offset v) tt p why (sym e)
 
-  pub write-done : (size offset v : ℕ) (x : State) → 0 ≡ first (writeChecks size offset v) 0 → x ≡ writeAt s offset v → outcome done x ≡ step s (write size offset v)
+  pub write-done : (size offset v : ℕ) (x : State) → 0 ≡ first (writeChecks registersEnd size offset v) 0 → x ≡ writeAt s offset v → outcome done x ≡ step s (write size offset v)
   unfolding argumentChecks perform
   write-done size offset v x e q = call-done s (write size offset v) tt p (sym e) _ (rw q refl)
 

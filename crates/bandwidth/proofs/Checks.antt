@@ -75,7 +75,7 @@ module _ (s : State) where
 
   -- the tables, the pool, the registers and mon_ctl, put together
   pub well-formed-is : (ok : Bool) (act left : ℕ) (regs ctl : Bool) → s .monitor .value < 2 ^ 64 → ok ≡ tables → (T ok → act ≡ total (s .usage .active))
-      → left ≡ s .setup .nbwblks - act → regs ≡ registersOk (s .setup) (s .alloc) → ctl ≡ eqb (s .monitor .ctl) (monWord (s .setup .na) (s .monitor .ctl) (statusOf (s .monitor .ctl)))
+      → left ≡ s .setup .nbwblks - act → regs ≡ registersOk (s .setup) (s .alloc) → ctl ≡ eqb (s .monitor .ctl) (monWord (s .setup .na) (s .monitor .ctl) 0 (statusOf (s .monitor .ctl)))
       → (ok && leb (s .usage .pool) (left * s .setup .q) && (regs && ctl)) ≡ wellFormed s
   unfolding tablesOk wellFormed usageOk monitorOk poolOf
   well-formed-is ok act left regs ctl v e f l r c =
@@ -93,7 +93,7 @@ module _ (s : State) where
       λ t. ap (λ (x : ℕ). leb (u .pool) (x * su .q)) (l ∙ ap (λ (x : ℕ). su .nbwblks - x) (f t)) in
       let whole : ok ≡ (ta && tc && us && ks && es) = e in
       by-parts ok (leb (u .pool) (left * su .q)) (leb (u .pool) ((su .nbwblks - total (u .active)) * su .q)) ta tc us ks es vk (registersOk su (s .alloc))
-      (eqb (m .ctl) (monWord (su .na) (m .ctl) (statusOf (m .ctl)))) regs ctl vt whole same r c
+      (eqb (m .ctl) (monWord (su .na) (m .ctl) 0 (statusOf (m .ctl)))) regs ctl vt whole same r c
 
 -- ---- what a check found
 

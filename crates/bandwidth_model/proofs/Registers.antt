@@ -34,14 +34,14 @@ use Rattle.bandwidth_model.proofs.Lists.{reset-state, inv-first, inv-af
 -- ---- the control registers after one call
 
 abbrev allocBy : Ledger → ℕ → ℕ
-allocBy l v = allocWord (l .setup .na) v (statusBy l v)
+allocBy l v = allocWord (l .setup .na) v 0 (statusBy l v)
 
 abbrev monBy : Ledger → ℕ → ℕ
-monBy l v = monWord (l .setup .na) v (monStatusBy l v)
+monBy l v = monWord (l .setup .na) v 0 (monStatusBy l v)
 
 module _ (s : State) where
   write-alloc : (offset v : ℕ)
-      → writeAt s offset v .alloc .ctl ≡ cond (eqb offset 24) (allocWord (s .setup .na) v (allocStatus (s .setup) (s .alloc .configured) (s .alloc .bw) v)) (s .alloc .ctl)
+      → writeAt s offset v .alloc .ctl ≡ cond (eqb offset 24) (allocWord (s .setup .na) v 0 (allocStatus (s .setup) (s .alloc .configured) (s .alloc .bw) v)) (s .alloc .ctl)
   unfolding writeAt writeAlloc writeBw
   write-alloc offset v =
       let w = writeAlloc (s .setup) (s .alloc .bw) (s .alloc .configured) v in
@@ -53,7 +53,7 @@ module _ (s : State) where
       (λ t. cases (λ x. cond x m s .alloc .ctl ≡ s .alloc .ctl) (eqb offset 8) (λ t. refl) (λ t. refl)))
 
   write-mon : (offset v : ℕ)
-      → writeAt s offset v .monitor .ctl ≡ cond (eqb offset 8) (monWord (s .setup .na) v (monStatus (s .setup .na) (s .setup .nm) lastEvent v)) (s .monitor .ctl)
+      → writeAt s offset v .monitor .ctl ≡ cond (eqb offset 8) (monWord (s .setup .na) v 0 (monStatus (s .setup .na) (s .setup .nm) lastEvent v)) (s .monitor .ctl)
   unfolding writeAt writeMon
   write-mon offset v =
       let a = withAlloc s (writeAlloc (s .setup) (s .alloc .bw) (s .alloc .configured) v) in
@@ -66,7 +66,7 @@ module _ (s : State) where
       (λ t. cases (λ x. cond x (withMonitor s w) s .monitor .ctl ≡ cond x (w .ctl) (s .monitor .ctl)) (eqb offset 8) (λ t. refl) (λ t. refl)))
 
   perform-alloc : (c : Call)
-      → perform s c .state .alloc .ctl ≡ controlAfter 3 (λ v. allocWord (s .setup .na) v (allocStatus (s .setup) (s .alloc .configured) (s .alloc .bw) v)) (s .alloc .ctl) c
+      → perform s c .state .alloc .ctl ≡ controlAfter 3 (λ v. allocWord (s .setup .na) v 0 (allocStatus (s .setup) (s .alloc .configured) (s .alloc .bw) v)) (s .alloc .ctl) c
   unfolding perform controlAfter afterReset afterWindow requested serveFrom serve
   perform-alloc (reset su) = refl
   perform-alloc (read size offset) = refl
@@ -75,7 +75,7 @@ module _ (s : State) where
   perform-alloc endWindow = refl
 
   perform-mon : (c : Call)
-      → perform s c .state .monitor .ctl ≡ controlAfter 1 (λ v. monWord (s .setup .na) v (monStatus (s .setup .na) (s .setup .nm) lastEvent v)) (s .monitor .ctl) c
+      → perform s c .state .monitor .ctl ≡ controlAfter 1 (λ v. monWord (s .setup .na) v 0 (monStatus (s .setup .na) (s .setup .nm) lastEvent v)) (s .monitor .ctl) c
   unfolding perform controlAfter afterReset cleared afterWindow requested serveFrom serve counted
   perform-mon (reset su) = refl
   perform-mon (read size offset) = refl

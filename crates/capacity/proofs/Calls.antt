@@ -70,7 +70,7 @@ module _ (s : State) (size offset v : ℕ) where
   unfolding writeAt writeMon
   write-mon-at st m e g q = rw (e, q, g .is) refl
 
-  pub write-none : first (access.writeChecks size offset v) 0 ≡ 0 → (offset ≡ 24 → ⊥) → ((offset ≡ 32) ⊎ (offset ≡ 36) → ⊥) → (offset ≡ 8 → ⊥) → s ≡ writeAt s size offset v
+  pub write-none : first (access.writeChecks access.registersEnd size offset v) 0 ≡ 0 → (offset ≡ 24 → ⊥) → ((offset ≡ 32) ⊎ (offset ≡ 36) → ⊥) → (offset ≡ 8 → ⊥) → s ≡ writeAt s size offset v
   unfolding writeAt
   write-none w a b c =
       let outside : offset / 8 ≡ 4 → ⊥ = λ e. halves size offset v 4 w e (λ h. b (inl h)) (λ h. b (inr h)) in

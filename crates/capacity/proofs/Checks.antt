@@ -88,7 +88,7 @@ module _ (s : State) where
   pub well-formed-is : Sized (s .setup) (s .alloc .masks) (s .monitor .counters) (s .monitor .events) → s .monitor .value < 2 ^ 64 → (a b m c k e : Bool)
       → a ≡ controlOk (s .setup .na) (s .alloc .ctl) → b ≡ eqb (s .alloc .mask) (maskOf (s .setup) (s .alloc .mask))
       → m ≡ allBelow (length (s .alloc .masks)) (λ i. eqb (getD (s .alloc .masks) i 0) (maskOf (s .setup) (getD (s .alloc .masks) i 0)))
-      → c ≡ eqb (s .monitor .ctl) (monWord (s .setup .na) (s .monitor .ctl) (statusOf (s .monitor .ctl)))
+      → c ≡ eqb (s .monitor .ctl) (monWord (s .setup .na) (s .monitor .ctl) 0 (statusOf (s .monitor .ctl)))
       → k ≡ allBelow (length (s .monitor .counters)) (λ i. counterOk reg.capacityCounter reg.capacityCtr (s .setup .w) (getD (s .monitor .counters) i 0))
       → e ≡ allBelow (length (s .monitor .events)) (λ i. settingOk (s .setup .na) lastEvent (getD (s .monitor .events) i 0))
       → (a && b && m && (c && k && e)) ≡ wellFormed s

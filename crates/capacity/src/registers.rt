@@ -16,7 +16,7 @@ use monitor::Registers;
 use monitor::capacity_status;
 use monitor::write_mon;
 ghost use mathlib.Core.Path.{_≡_};
-ghost use Rattle.access.specs.Access.{writeChecks};
+ghost use Rattle.access.specs.Access.{registersEnd, writeChecks};
 ghost use Rattle.access.specs.Checks.{first};
 ghost use Rattle.capacity_model.specs.Facts.{Ranges};
 ghost use Rattle.capacity_model.specs.Calls.{read, write};
@@ -93,7 +93,7 @@ impl Record {
         offset: u64,
         value: u64,
     ) -> Record
-        requires { ⌜ Ranges (setupOf (self .setup)) × (first (writeChecks size offset value) 0 ≡ 0) ⌝ }
+        requires { ⌜ Ranges (setupOf (self .setup)) × (first (writeChecks registersEnd size offset value) 0 ≡ 0) ⌝ }
         ensures { λ r. ⌜ state r (now (masks .exit)) (now (counters .exit)) (now (events .exit))
             ≡ writeAt (state self (now (masks .entry)) (now (counters .entry)) (now (events .entry))) size offset value ⌝ }
     {

@@ -34,13 +34,13 @@ use Rattle.capacity_model.proofs.Lists.{reset-state, inv-first, inv-aft
 -- ---- the control registers after one call
 
 abbrev allocBy : Ledger → ℕ → ℕ
-allocBy l v = allocWord (l .setup .na) v (statusBy l v)
+allocBy l v = allocWord (l .setup .na) v 0 (statusBy l v)
 
 abbrev monBy : Ledger → ℕ → ℕ
-monBy l v = monWord (l .setup .na) v (monStatusBy l v)
+monBy l v = monWord (l .setup .na) v 0 (monStatusBy l v)
 
 module _ (s : State) where
-  write-alloc : (size offset v : ℕ) → writeAt s size offset v .alloc .ctl ≡ cond (eqb offset 24) (allocWord (s .setup .na) v (allocStatus (s .setup) (s .alloc .mask) v)) (s .alloc .ctl)
+  write-alloc : (size offset v : ℕ) → writeAt s size offset v .alloc .ctl ≡ cond (eqb offset 24) (allocWord (s .setup .na) v 0 (allocStatus (s .setup) (s .alloc .mask) v)) (s .alloc .ctl)
   unfolding writeAt writeAlloc writeMask
   write-alloc size offset v =
       let operand = eqb (access.registerAt offset) access.operand in
@@ -53,7 +53,7 @@ module _ (s : State) where
       (λ t. cases (λ x. cond x m s .alloc .ctl ≡ s .alloc .ctl) (eqb offset 8) (λ t. refl) (λ t. refl)))
 
   write-mon : (size offset v : ℕ)
-      → writeAt s size offset v .monitor .ctl ≡ cond (eqb offset 8) (monWord (s .setup .na) v (monStatus (s .setup .na) (s .setup .nm) lastEvent v)) (s .monitor .ctl)
+      → writeAt s size offset v .monitor .ctl ≡ cond (eqb offset 8) (monWord (s .setup .na) v 0 (monStatus (s .setup .na) (s .setup .nm) lastEvent v)) (s .monitor .ctl)
   unfolding writeAt writeMon
   write-mon size offset v =
       let operand = eqb (access.registerAt offset) access.operand in
@@ -66,7 +66,7 @@ module _ (s : State) where
       (λ t. cases (λ x. cond x b s .monitor .ctl ≡ s .monitor .ctl) operand (λ t. refl) (λ t. refl)))
 
   perform-alloc : (c : Call)
-      → perform s c .state .alloc .ctl ≡ controlAfter 3 (λ v. allocWord (s .setup .na) v (allocStatus (s .setup) (s .alloc .mask) v)) (s .alloc .ctl) c
+      → perform s c .state .alloc .ctl ≡ controlAfter 3 (λ v. allocWord (s .setup .na) v 0 (allocStatus (s .setup) (s .alloc .mask) v)) (s .alloc .ctl) c
   unfolding perform controlAfter afterReset fillWith noteBlock
   perform-alloc (reset su) = refl
   perform-alloc (read size offset) = refl
@@ -76,7 +76,7 @@ module _ (s : State) where
   perform-alloc (evict rcid mcid at block) = refl
 
   perform-mon : (c : Call)
-      → perform s c .state .monitor .ctl ≡ controlAfter 1 (λ v. monWord (s .setup .na) v (monStatus (s .setup .na) (s .setup .nm) lastEvent v)) (s .monitor .ctl) c
+      → perform s c .state .monitor .ctl ≡ controlAfter 1 (λ v. monWord (s .setup .na) v 0 (monStatus (s .setup .na) (s .setup .nm) lastEvent v)) (s .monitor .ctl) c
   unfolding perform controlAfter afterReset cleared fillWith noteBlock counted
   perform-mon (reset su) = refl
   perform-mon (read size offset) = refl
