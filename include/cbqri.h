@@ -59,7 +59,8 @@
  *   refuses it (1 or 2), or read the same bytes otherwise. CHANGELOG.md says so.
  *
  * Every function returns 0, or the number of a refusal (below). A refused call
- * has changed nothing, and the number it hands back is 0.
+ * has changed no byte of record and tables, and stores 0 as the number that it
+ * hands back through a pointer.
  *
  * Refusals are about the caller: what a driver asks of a register shows in
  * STATUS, and the call that carried its write returns 0. Two of them a driver
