@@ -1,6 +1,8 @@
 -- The code's record, tables and answers as the model's.
 use mathlib.Core.List.{List}
 use Prim.Native.Nat.{ℕ}
+use denote.Ref.{RefT}
+use denote.Triple.Both.{Both}
 use Rattle.access.specs.Refusals.{numberOf}
 use Rattle.bandwidth_model.specs.Calls.{Answer, refused, done, value, granted}
 use Rattle.bandwidth_model.specs.Model.{State, Outcome}
@@ -21,6 +23,16 @@ state r active configured used counters events = record {
   usage = record { active = active; used = used; pool = r .pool };
   monitor = record { ctl = r .«mon_ctl»; value = r .«mon_ctr_val»; counters = counters; events = events };
 }
+
+-- the state when a call is made and when it returns, over the places that a contract names; a table lent as & stays
+abbrev pub Slice : Type 0
+Slice = Both (RefT (List ℕ)) (RefT (List ℕ))
+
+abbrev pub before : Record → Slice → Slice → Slice → Slice → Slice → State
+before r active configured used counters events = state r (active .entry .now) (configured .entry .now) (used .entry .now) (counters .entry .now) (events .entry .now)
+
+abbrev pub after : Record → Slice → Slice → Slice → Slice → Slice → State
+after r active configured used counters events = state r (active .exit .now) (configured .exit .now) (used .exit .now) (counters .exit .now) (events .exit .now)
 
 abbrev pub outcome : Answer → State → Outcome
 outcome a s = record { answer = a; state = s }

@@ -10,7 +10,7 @@ ghost use mathlib.Core.Path.{_≡_};
 ghost use Rattle.bandwidth_model.specs.Facts.{Ranges, Sized};
 ghost use Rattle.bandwidth_model.specs.Model.{lengthsOk};
 ghost use Rattle.setup.specs.View.{setupOf};
-ghost use Rattle.bandwidth.specs.View.{state};
+ghost use Rattle.bandwidth.specs.View.{before};
 ghost use Rattle.bandwidth.specs.Checked.{Judged, Checked};
 
 // The blocks that the holders in force and the holders configured reserve.
@@ -43,7 +43,7 @@ impl Record {
         events: &[u16],
     ) -> bool
         requires { ⌜ Ranges (setupOf setup) ⌝ }
-        ensures { λ r. ⌜ r ≡ lengthsOk (setupOf setup) (state self (now (active .entry)) (now (configured .entry)) (now (used .entry)) (now (counters .entry)) (now (events .entry))) ⌝ }
+        ensures { λ r. ⌜ r ≡ lengthsOk (setupOf setup) (before self active configured used counters events) ⌝ }
     {
         let pairs = setup.pairs() as usize;
         let nm = setup.nm as usize;
@@ -64,7 +64,7 @@ impl Record {
         events: &[u16],
     ) -> Judgement
         requires { ⌜ Ranges (setupOf (self .setup)) × Sized (setupOf (self .setup)) (now active) (now configured) (now used) (now counters) (now events) ⌝ }
-        ensures { λ r. ⌜ Judged (state self (now (active .entry)) (now (configured .entry)) (now (used .entry)) (now (counters .entry)) (now (events .entry))) (r .ok) (r .totals) ⌝ }
+        ensures { λ r. ⌜ Judged (before self active configured used counters events) (r .ok) (r .totals) ⌝ }
     {
         let setup = self.setup;
         let seen = tables_ok(setup, active, configured, used, counters, events);
@@ -89,7 +89,7 @@ impl Record {
         counters: &[u64],
         events: &[u16],
     ) -> Check
-        ensures { λ r. ⌜ Checked (state self (now (active .entry)) (now (configured .entry)) (now (used .entry)) (now (counters .entry)) (now (events .entry))) r ⌝ }
+        ensures { λ r. ⌜ Checked (before self active configured used counters events) r ⌝ }
     {
         let setup = self.setup;
         if setup.in_range() {

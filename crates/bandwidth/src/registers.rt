@@ -21,7 +21,7 @@ ghost use Rattle.bandwidth_model.specs.Facts.{Ranges};
 ghost use Rattle.bandwidth_model.specs.Calls.{read, write};
 ghost use Rattle.bandwidth_model.specs.Model.{capabilities, register, writeAt, step};
 ghost use Rattle.setup.specs.View.{setupOf};
-ghost use Rattle.bandwidth.specs.View.{state, outcome, ackOf, readingOf};
+ghost use Rattle.bandwidth.specs.View.{before, after, state, outcome, ackOf, readingOf};
 ghost use Rattle.bandwidth.specs.Checked.{Passes};
 
 impl Record {
@@ -48,7 +48,7 @@ impl Record {
         n: u64,
     ) -> u64
         requires { ⌜ Ranges (setupOf (self .setup)) ⌝ }
-        ensures { λ r. ⌜ r ≡ register (state self (now (active .entry)) (now (configured .entry)) (now (used .entry)) (now (counters .entry)) (now (events .entry))) n ⌝ }
+        ensures { λ r. ⌜ r ≡ register (before self active configured used counters events) n ⌝ }
     {
         match n {
             0 => self.capabilities(),
@@ -69,8 +69,7 @@ impl Record {
         size: u64,
         offset: u64,
     ) -> Read
-        ensures { λ r. ⌜ outcome (readingOf (r .reading)) (state (r .«record») (now (active .entry)) (now (configured .entry)) (now (used .entry)) (now (counters .entry)) (now (events .entry)))
-            ≡ step (state self (now (active .entry)) (now (configured .entry)) (now (used .entry)) (now (counters .entry)) (now (events .entry))) (read size offset) ⌝ }
+        ensures { λ r. ⌜ outcome (readingOf (r .reading)) (after (r .«record») active configured used counters events) ≡ step (before self active configured used counters events) (read size offset) ⌝ }
     {
         match self.check(active, configured, used, counters, events) {
             Check::Failed(why) => Read {
@@ -113,8 +112,7 @@ impl Record {
         value: u64,
     ) -> Record
         requires { ⌜ Passes (state self (now active) (now configured) (now used) (now counters) (now events)) totals ⌝ }
-        ensures { λ r. ⌜ state r (now (active .entry)) (now (configured .exit)) (now (used .entry)) (now (counters .exit)) (now (events .exit))
-            ≡ writeAt (state self (now (active .entry)) (now (configured .entry)) (now (used .entry)) (now (counters .entry)) (now (events .entry))) offset value ⌝ }
+        ensures { λ r. ⌜ after r active configured used counters events ≡ writeAt (before self active configured used counters events) offset value ⌝ }
     {
         let setup = self.setup;
         match offset {
@@ -152,8 +150,7 @@ impl Record {
         offset: u64,
         value: u64,
     ) -> Acked
-        ensures { λ r. ⌜ outcome (ackOf (r .ack)) (state (r .«record») (now (active .entry)) (now (configured .exit)) (now (used .entry)) (now (counters .exit)) (now (events .exit)))
-            ≡ step (state self (now (active .entry)) (now (configured .entry)) (now (used .entry)) (now (counters .entry)) (now (events .entry))) (write size offset value) ⌝ }
+        ensures { λ r. ⌜ outcome (ackOf (r .ack)) (after (r .«record») active configured used counters events) ≡ step (before self active configured used counters events) (write size offset value) ⌝ }
     {
         match self.check(active, configured, used, counters, events) {
             Check::Failed(why) => Acked {

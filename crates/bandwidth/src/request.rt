@@ -14,7 +14,7 @@ ghost use mathlib.Core.Path.{_≡_};
 ghost use Prim.Native.Nat.{_<_};
 ghost use Rattle.bandwidth_model.specs.Calls.{request};
 ghost use Rattle.bandwidth_model.specs.Model.{requested, step};
-ghost use Rattle.bandwidth.specs.View.{state, outcome, grantingOf};
+ghost use Rattle.bandwidth.specs.View.{before, after, state, outcome, grantingOf};
 ghost use Rattle.bandwidth.specs.Checked.{Passes};
 
 impl Record {
@@ -34,8 +34,7 @@ impl Record {
         bytes: u32,
     ) -> Served
         requires { ⌜ Passes (state self (now active) (now configured) (now used) (now counters) (now events)) totals × (rcid < self .setup .nr) ⌝ }
-        ensures { λ r. ⌜ outcome (grantingOf (r .granting)) (state (r .«record») (now (active .entry)) (now (configured .entry)) (now (used .exit)) (now (counters .exit)) (now (events .entry)))
-            ≡ requested (state self (now (active .entry)) (now (configured .entry)) (now (used .entry)) (now (counters .entry)) (now (events .entry))) rcid mcid at kind bytes ⌝ }
+        ensures { λ r. ⌜ outcome (grantingOf (r .granting)) (after (r .«record») active configured used counters events) ≡ requested (before self active configured used counters events) rcid mcid at kind bytes ⌝ }
     {
         let setup = self.setup;
         let at = known_at(setup.na, at);
@@ -71,8 +70,7 @@ impl Record {
         kind: u64,
         bytes: u32,
     ) -> Served
-        ensures { λ r. ⌜ outcome (grantingOf (r .granting)) (state (r .«record») (now (active .entry)) (now (configured .entry)) (now (used .exit)) (now (counters .exit)) (now (events .entry)))
-            ≡ step (state self (now (active .entry)) (now (configured .entry)) (now (used .entry)) (now (counters .entry)) (now (events .entry))) (request rcid mcid at kind bytes) ⌝ }
+        ensures { λ r. ⌜ outcome (grantingOf (r .granting)) (after (r .«record») active configured used counters events) ≡ step (before self active configured used counters events) (request rcid mcid at kind bytes) ⌝ }
     {
         match self.check(active, configured, used, counters, events) {
             Check::Failed(why) => Served {

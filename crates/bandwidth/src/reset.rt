@@ -17,7 +17,7 @@ ghost use Rattle.bandwidth_model.specs.Calls.{reset};
 ghost use Rattle.bandwidth_model.specs.Rules.{pairs, resetTable};
 ghost use Rattle.bandwidth_model.specs.Model.{step};
 ghost use Rattle.setup.specs.View.{setupOf};
-ghost use Rattle.bandwidth.specs.View.{state, outcome, ackOf};
+ghost use Rattle.bandwidth.specs.View.{before, after, outcome, ackOf};
 ghost use Rattle.bandwidth.specs.Checked.{Fresh};
 
 // The Mweight that RCID 0 has after a reset.
@@ -75,8 +75,7 @@ impl Record {
         events: &mut [u16],
         setup: Setup,
     ) -> Acked
-        ensures { λ r. ⌜ outcome (ackOf (r .ack)) (state (r .«record») (now (active .exit)) (now (configured .exit)) (now (used .exit)) (now (counters .exit)) (now (events .exit)))
-            ≡ step (state self (now (active .entry)) (now (configured .entry)) (now (used .entry)) (now (counters .entry)) (now (events .entry))) (reset (setupOf setup)) ⌝ }
+        ensures { λ r. ⌜ outcome (ackOf (r .ack)) (after (r .«record») active configured used counters events) ≡ step (before self active configured used counters events) (reset (setupOf setup)) ⌝ }
     {
         if setup.in_range() {
             if self.lengths_ok(setup, active, configured, used, counters, events) {

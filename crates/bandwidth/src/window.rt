@@ -8,7 +8,7 @@ use tables::fill32;
 ghost use mathlib.Core.Path.{_≡_};
 ghost use Rattle.bandwidth_model.specs.Calls.{endWindow};
 ghost use Rattle.bandwidth_model.specs.Model.{step};
-ghost use Rattle.bandwidth.specs.View.{state, outcome, ackOf};
+ghost use Rattle.bandwidth.specs.View.{before, after, outcome, ackOf};
 
 impl Record {
     pub fn end_window(
@@ -19,8 +19,7 @@ impl Record {
         counters: &[u64],
         events: &[u16],
     ) -> Acked
-        ensures { λ r. ⌜ outcome (ackOf (r .ack)) (state (r .«record») (now (active .exit)) (now (configured .entry)) (now (used .exit)) (now (counters .entry)) (now (events .entry)))
-            ≡ step (state self (now (active .entry)) (now (configured .entry)) (now (used .entry)) (now (counters .entry)) (now (events .entry))) endWindow ⌝ }
+        ensures { λ r. ⌜ outcome (ackOf (r .ack)) (after (r .«record») active configured used counters events) ≡ step (before self active configured used counters events) endWindow ⌝ }
     {
         match self.check(active, configured, used, counters, events) {
             Check::Failed(why) => Acked {

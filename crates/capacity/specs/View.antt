@@ -2,6 +2,8 @@
 use mathlib.Core.Bool.{true, false}
 use mathlib.Core.List.{List}
 use Prim.Native.Nat.{ℕ}
+use denote.Ref.{RefT}
+use denote.Triple.Both.{Both}
 use Rattle.access.specs.Refusals.{numberOf}
 use Rattle.access.specs.declared.Ack.{Ack}
 use Rattle.access.specs.declared.Ack.the-variants as ack
@@ -21,6 +23,16 @@ state r masks counters events = record {
   alloc = allocation (r .«alloc_ctl») (r .«block_mask») masks;
   monitor = record { ctl = r .«mon_ctl»; value = r .«mon_ctr_val»; counters = counters; events = events };
 }
+
+-- the state when a call is made and when it returns, over the places that a contract names; a table lent as & stays
+abbrev pub Slice : Type 0
+Slice = Both (RefT (List ℕ)) (RefT (List ℕ))
+
+abbrev pub before : Record → Slice → Slice → Slice → State
+before r masks counters events = state r (masks .entry .now) (counters .entry .now) (events .entry .now)
+
+abbrev pub after : Record → Slice → Slice → Slice → State
+after r masks counters events = state r (masks .exit .now) (counters .exit .now) (events .exit .now)
 
 abbrev pub outcome : Answer → State → Outcome
 outcome a s = record { answer = a; state = s }

@@ -21,7 +21,7 @@ ghost use Rattle.capacity_model.specs.Facts.{Ranges};
 ghost use Rattle.capacity_model.specs.Calls.{fill, evict};
 ghost use Rattle.capacity_model.specs.Model.{blockChecks, fillAllowed, step};
 ghost use Rattle.masks.specs.View.{setupOf};
-ghost use Rattle.capacity.specs.View.{state, outcome, ackOf, fillingOf};
+ghost use Rattle.capacity.specs.View.{before, after, outcome, ackOf, fillingOf};
 
 // Checks 7 and 8.
 fn block_verdict(setup: Setup, rcid: u64, mcid: u64, block: u64) -> Verdict
@@ -48,7 +48,7 @@ impl Record {
         block: u64,
     ) -> bool
         requires { ⌜ Ranges (setupOf (self .setup)) × ((rcid < self .setup .nr) × (block < self .setup .ncblks)) ⌝ }
-        ensures { λ r. ⌜ r ≡ fillAllowed (state self (now (masks .entry)) (now (counters .entry)) (now (events .entry))) rcid at block ⌝ }
+        ensures { λ r. ⌜ r ≡ fillAllowed (before self masks counters events) rcid at block ⌝ }
     {
         let na = self.setup.na;
         let i = place(na, rcid, known_at(na, at));
@@ -65,8 +65,7 @@ impl Record {
         at: u64,
         block: u64,
     ) -> Filled
-        ensures { λ r. ⌜ outcome (fillingOf (r .filling)) (state (r .«record») (now (masks .entry)) (now (counters .exit)) (now (events .entry)))
-            ≡ step (state self (now (masks .entry)) (now (counters .entry)) (now (events .entry))) (fill rcid mcid at block) ⌝ }
+        ensures { λ r. ⌜ outcome (fillingOf (r .filling)) (after (r .«record») masks counters events) ≡ step (before self masks counters events) (fill rcid mcid at block) ⌝ }
     {
         let setup = self.setup;
         match self.check(masks, counters, events) {
@@ -107,8 +106,7 @@ impl Record {
         at: u64,
         block: u64,
     ) -> Acked
-        ensures { λ r. ⌜ outcome (ackOf (r .ack)) (state (r .«record») (now (masks .entry)) (now (counters .exit)) (now (events .entry)))
-            ≡ step (state self (now (masks .entry)) (now (counters .entry)) (now (events .entry))) (evict rcid mcid at block) ⌝ }
+        ensures { λ r. ⌜ outcome (ackOf (r .ack)) (after (r .«record») masks counters events) ≡ step (before self masks counters events) (evict rcid mcid at block) ⌝ }
     {
         let setup = self.setup;
         match self.check(masks, counters, events) {

@@ -14,7 +14,7 @@ ghost use Rattle.access.specs.Refusals.{verdictOf};
 ghost use Rattle.capacity_model.specs.Facts.{Ranges, Sized};
 ghost use Rattle.capacity_model.specs.Model.{lengthsOk, wellFormed, setupChecks, stateChecks};
 ghost use Rattle.masks.specs.View.{setupOf};
-ghost use Rattle.capacity.specs.View.{state};
+ghost use Rattle.capacity.specs.View.{before};
 
 // The highest EVT_ID that the capacity controller knows.
 const LAST_EVENT: u16 = 1;
@@ -23,7 +23,7 @@ impl Record {
     // Check 2, by a set-up.
     fn lengths_ok(self, setup: Setup, masks: &[u64], counters: &[u64], events: &[u16]) -> bool
         requires { ⌜ Ranges (setupOf setup) ⌝ }
-        ensures { λ r. ⌜ r ≡ lengthsOk (setupOf setup) (state self (now (masks .entry)) (now (counters .entry)) (now (events .entry))) ⌝ }
+        ensures { λ r. ⌜ r ≡ lengthsOk (setupOf setup) (before self masks counters events) ⌝ }
     {
         let pairs = setup.pairs() as usize;
         let nm = setup.nm as usize;
@@ -33,7 +33,7 @@ impl Record {
     // Check 3.
     fn well_formed(self, masks: &[u64], counters: &[u64], events: &[u16]) -> bool
         requires { ⌜ Ranges (setupOf (self .setup)) × Sized (setupOf (self .setup)) (now masks) (now counters) (now events) ⌝ }
-        ensures { λ r. ⌜ r ≡ wellFormed (state self (now (masks .entry)) (now (counters .entry)) (now (events .entry))) ⌝ }
+        ensures { λ r. ⌜ r ≡ wellFormed (before self masks counters events) ⌝ }
     {
         let setup = self.setup;
         let allocation = control_ok(setup.na, self.alloc_ctl)
@@ -53,7 +53,7 @@ impl Record {
         counters: &[u64],
         events: &[u16],
     ) -> Verdict
-        ensures { λ r. ⌜ verdictOf r ≡ first (setupChecks (setupOf setup) (state self (now (masks .entry)) (now (counters .entry)) (now (events .entry)))) 0 ⌝ }
+        ensures { λ r. ⌜ verdictOf r ≡ first (setupChecks (setupOf setup) (before self masks counters events)) 0 ⌝ }
     {
         if setup.in_range() {
             if self.lengths_ok(setup, masks, counters, events) {
@@ -68,7 +68,7 @@ impl Record {
 
     // Checks 1 to 3.
     pub fn check(self, masks: &[u64], counters: &[u64], events: &[u16]) -> Verdict
-        ensures { λ r. ⌜ verdictOf r ≡ first (stateChecks (state self (now (masks .entry)) (now (counters .entry)) (now (events .entry)))) 0 ⌝ }
+        ensures { λ r. ⌜ verdictOf r ≡ first (stateChecks (before self masks counters events)) 0 ⌝ }
     {
         match self.check_setup(self.setup, masks, counters, events) {
             Verdict::Failed(why) => Verdict::Failed(why),

@@ -22,7 +22,7 @@ ghost use Rattle.capacity_model.specs.Facts.{Ranges};
 ghost use Rattle.capacity_model.specs.Calls.{read, write};
 ghost use Rattle.capacity_model.specs.Model.{capabilities, register, writeAt, step};
 ghost use Rattle.masks.specs.View.{setupOf};
-ghost use Rattle.capacity.specs.View.{state, outcome, ackOf, readingOf};
+ghost use Rattle.capacity.specs.View.{before, after, outcome, ackOf, readingOf};
 
 impl Record {
     // What capabilities reads; FRCID is 0.
@@ -40,7 +40,7 @@ impl Record {
     // The register that an offset lies in.
     fn register(self, masks: &[u64], counters: &[u64], events: &[u16], n: u64) -> u64
         requires { ⌜ Ranges (setupOf (self .setup)) ⌝ }
-        ensures { λ r. ⌜ r ≡ register (state self (now (masks .entry)) (now (counters .entry)) (now (events .entry))) n ⌝ }
+        ensures { λ r. ⌜ r ≡ register (before self masks counters events) n ⌝ }
     {
         match n {
             0 => self.capabilities(),
@@ -59,8 +59,7 @@ impl Record {
         size: u64,
         offset: u64,
     ) -> Read
-        ensures { λ r. ⌜ outcome (readingOf (r .reading)) (state (r .«record») (now (masks .entry)) (now (counters .entry)) (now (events .entry)))
-            ≡ step (state self (now (masks .entry)) (now (counters .entry)) (now (events .entry))) (read size offset) ⌝ }
+        ensures { λ r. ⌜ outcome (readingOf (r .reading)) (after (r .«record») masks counters events) ≡ step (before self masks counters events) (read size offset) ⌝ }
     {
         match self.check(masks, counters, events) {
             Verdict::Failed(why) => Read {
@@ -94,8 +93,7 @@ impl Record {
         value: u64,
     ) -> Record
         requires { ⌜ Ranges (setupOf (self .setup)) × (first (writeChecks registersEnd size offset value) 0 ≡ 0) ⌝ }
-        ensures { λ r. ⌜ state r (now (masks .exit)) (now (counters .exit)) (now (events .exit))
-            ≡ writeAt (state self (now (masks .entry)) (now (counters .entry)) (now (events .entry))) size offset value ⌝ }
+        ensures { λ r. ⌜ after r masks counters events ≡ writeAt (before self masks counters events) size offset value ⌝ }
     {
         let setup = self.setup;
         match offset {
@@ -132,8 +130,7 @@ impl Record {
         offset: u64,
         value: u64,
     ) -> Acked
-        ensures { λ r. ⌜ outcome (ackOf (r .ack)) (state (r .«record») (now (masks .exit)) (now (counters .exit)) (now (events .exit)))
-            ≡ step (state self (now (masks .entry)) (now (counters .entry)) (now (events .entry))) (write size offset value) ⌝ }
+        ensures { λ r. ⌜ outcome (ackOf (r .ack)) (after (r .«record») masks counters events) ≡ step (before self masks counters events) (write size offset value) ⌝ }
     {
         match self.check(masks, counters, events) {
             Verdict::Failed(why) => Acked {

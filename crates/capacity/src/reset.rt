@@ -14,7 +14,7 @@ ghost use Rattle.capacity_model.specs.Calls.{reset};
 ghost use Rattle.capacity_model.specs.Rules.{pairs, resetMasks};
 ghost use Rattle.capacity_model.specs.Model.{step};
 ghost use Rattle.masks.specs.View.{setupOf};
-ghost use Rattle.capacity.specs.View.{state, outcome, ackOf};
+ghost use Rattle.capacity.specs.View.{before, after, outcome, ackOf};
 
 // The masks of a reset: every block for each AT of RCID 0, and else none.
 fn reset_masks(setup: Setup, masks: &mut [u64])
@@ -34,8 +34,7 @@ impl Record {
         events: &mut [u16],
         setup: Setup,
     ) -> Acked
-        ensures { λ r. ⌜ outcome (ackOf (r .ack)) (state (r .«record») (now (masks .exit)) (now (counters .exit)) (now (events .exit)))
-            ≡ step (state self (now (masks .entry)) (now (counters .entry)) (now (events .entry))) (reset (setupOf setup)) ⌝ }
+        ensures { λ r. ⌜ outcome (ackOf (r .ack)) (after (r .«record») masks counters events) ≡ step (before self masks counters events) (reset (setupOf setup)) ⌝ }
     {
         match self.check_setup(setup, masks, counters, events) {
             Verdict::Failed(why) => Acked {
