@@ -5,7 +5,7 @@
 help:
 	@sed -n 's/^# make \([^:]*\): /\1: /p' Makefile | awk -F ': ' '{ name = $$1; sub(/^[^:]*: /, ""); printf "%-30s %s\n", "make " name, $$0 }'
 
-# make run: prove and build the listing program, and run document 01's worked example on it; 5 to 9 minutes the first time
+# make run: prove and build the listing program, and run the worked example (rule T7) on it; 5 to 9 minutes the first time
 run:
 	@mkdir -p target && tests/progress target/run.log rt check listing >&2
 	@$(MAKE) --no-print-directory target/listing

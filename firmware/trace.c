@@ -1,5 +1,5 @@
 /*
- * Document 01's cases P1 to P12 with their numbers, then random calls on both
+ * The cases of rules P1 to P12 with their numbers, then random calls on both
  * controllers from a fixed seed, each by the function on bytes and, where all
  * tables have whole words, by the one on words too. Its output is the same on
  * every machine: a line for each 100 calls has their 100 answers (0, or the

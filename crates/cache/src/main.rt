@@ -41,7 +41,7 @@ fn hex(lead: &[u8], word: u64) {
     io::print_hex(STDOUT_FILENO, word, 16);
 }
 
-// Document 01's number of a refusal.
+// The number of a refusal (rules R1 to R8).
 fn refused(why: Refusal) {
     let n = match why {
         Refusal::Setup => 1,

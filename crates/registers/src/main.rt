@@ -1,4 +1,4 @@
-// The register words of document 01's cases P1 to P12 (P8 and P9 have none), each unpacked, written field by field and packed again.
+// The register words of rules P1 to P12 (P8 and P9 have none), each unpacked, written field by field and packed again.
 // Lines `all` have every bit set, so that the bits that no field names are seen to be dropped; lines `cap` are the capacity controller's.
 use fields::AllocCtl;
 use fields::BandwidthCapabilities;

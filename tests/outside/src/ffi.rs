@@ -1,5 +1,5 @@
 //! The C interface of libcbqri.a, and safe functions over it.
-//! Each slice is an address and a count: the record, then the tables in document 01's order. The
+//! Each slice is an address and a count: the record, then the tables in the order of rule I2. The
 //! functions on words have the same arguments as those on bytes; their tables are words, counted.
 
 use crate::memory::Memory;

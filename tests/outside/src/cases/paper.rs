@@ -1,4 +1,4 @@
-//! Document 01, "One controller worked through": P1 to P12, and the listing as calls.
+//! One controller worked through: rules P1 to P12, and the listing as calls.
 
 use super::case::BandwidthCase;
 use super::Report;

@@ -11,8 +11,8 @@ pub fn run(report: &mut Report) {
 
 // Section 4.5: RCID 3 with AT 0: Rbwb 100, Mweight 16; AT 1: Rbwb 50, Mweight 16; AT 2 shares AT 1.
 // The source gives no set-up. MRBWB 151 leaves room for exactly this beside the one block that RCID 0
-// must keep, since document 01 lets a holder be lowered to 1 and not to 0. Figures 6 and 9, the
-// registers, are lost: the fields stand where document 01 puts them. "N/A" is stored as 0 (document 01).
+// must keep, since rule O4 lets a holder be lowered to 1 and not to 0. Figures 6 and 9, the
+// registers, are lost: the fields stand where rules G4 to G9 put them. "N/A" is stored as 0 (rule O6).
 const THREE_TYPES: [u64; 7] = [160, 151, 4, 3, 2, 64, 32];
 const AT_0: u64 = 100 | 16 << 20;
 const AT_1: u64 = 50 | 16 << 20;
@@ -34,7 +34,7 @@ fn three_access_types(report: &mut Report) {
     c.read_limit("RCID 3 AT 1 reads back", (3, 1), 0x0100_0032);
     c.read_limit("RCID 3 AT 2 reads back", (3, 2), 0x9000_0000);
     c.configure("one block more", (3, 1), 51 | 16 << 20, 5);
-    // what the source calls UNSPECIFIED, document 01 refuses
+    // what the source calls UNSPECIFIED, rules O4 and O5 refuse
     c.configure("AT 0 shares AT 2, no holder", (3, 0), 1 << 31 | 2 << 28, 5);
     c.configure("AT 1 shares AT 0 while AT 2 shares AT 1", (3, 1), 1 << 31, 5);
 }
@@ -52,7 +52,7 @@ fn three_access_types_in_use(report: &mut Report) {
 }
 
 // Section 3.4: NCBLKS 8, masks of RCIDs 3, 5 and 6 for two access types. The table's columns are
-// blocks 7 to 0. Figures 2 and 5 are lost: the fields stand where document 01 puts them.
+// blocks 7 to 0. Figures 2 and 5 are lost: the fields stand where rules G4 to G9 put them.
 const MASKS: [((u64, u64), u64); 6] = [
     ((3, 0), 0b0001_1000),
     ((3, 1), 0b0001_1000),

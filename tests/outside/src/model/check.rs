@@ -20,7 +20,7 @@ pub trait Checked: Sized {
     /// The lengths of the tables in bytes.
     fn table_lengths(setup: &Setup<Self>) -> Vec<usize>;
 
-    /// The first part of record and tables that is not well formed. Document 01's "lawful" is what
+    /// The first part of record and tables that is not well formed (rule W1). Well formed is what
     /// the controller's own calls can leave, and no bit elsewhere.
     fn fault(&self) -> Option<&'static str>;
 

@@ -1,4 +1,4 @@
-//! A model of document 01, written from the paper alone and apart from the proved code.
+//! A model of the rules, written from the paper alone and apart from the proved code.
 //! It is meant to be plain, not fast: typed tables, one rule of the paper in one place.
 
 pub mod access;

@@ -62,7 +62,7 @@ pub enum Call {
         value: u64,
     },
     Fill(Event),
-    /// Document 01's "emptying".
+    /// An eviction (rule E3, "emptying" in the paper).
     Evict(Event),
 }
 
