@@ -59,7 +59,7 @@ static struct setup random_setup(void)
     return s;
 }
 
-/* Random lawful tables */
+/* Random well-formed tables */
 
 static void random_row(void *table, const struct setup *s, uint64_t rcid, uint64_t *left)
 {

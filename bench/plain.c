@@ -12,9 +12,9 @@
 #include <stdbool.h>
 #include <string.h>
 
-#ifndef BANDWIDTH_TABLES_LAWFUL
-#define BANDWIDTH_TABLES_LAWFUL bandwidth_tables_lawful
-#define CAPACITY_TABLES_LAWFUL capacity_tables_lawful
+#ifndef BANDWIDTH_TABLES_OK
+#define BANDWIDTH_TABLES_OK bandwidth_tables_ok
+#define CAPACITY_TABLES_OK capacity_tables_ok
 #endif
 
 #if __BYTE_ORDER__ != __ORDER_LITTLE_ENDIAN__
@@ -183,44 +183,44 @@ static bool monitor_lengths_good(uint64_t nm, size_t counters_len,
 
 /* Check 3 */
 
-static bool monitor_registers_lawful(uint64_t mon_ctl, uint64_t na)
+static bool monitor_registers_ok(uint64_t mon_ctl, uint64_t na)
 {
     uint64_t held = na == 1 ? CTL_AT | CTL_ATV : 0;
     return (mon_ctl & ~((MON_CTL_FIELDS & ~held) | CTL_STATUS)) == 0;
 }
 
-static bool alloc_ctl_lawful(uint64_t alloc_ctl, uint64_t na)
+static bool alloc_ctl_ok(uint64_t alloc_ctl, uint64_t na)
 {
     uint64_t held = na == 1 ? CTL_AT : 0;
     return (alloc_ctl & ~((ALLOC_CTL_FIELDS & ~held) | CTL_STATUS)) == 0;
 }
 
-static bool bandwidth_registers_lawful(const struct bandwidth_record *r)
+static bool bandwidth_registers_ok(const struct bandwidth_record *r)
 {
-    return monitor_registers_lawful(r->mon_ctl, r->na) &&
-           alloc_ctl_lawful(r->alloc_ctl, r->na) &&
+    return monitor_registers_ok(r->mon_ctl, r->na) &&
+           alloc_ctl_ok(r->alloc_ctl, r->na) &&
            (r->bw_alloc & ~(uint64_t)SETTING) == 0;
 }
 
-static bool capacity_registers_lawful(const struct capacity_record *r)
+static bool capacity_registers_ok(const struct capacity_record *r)
 {
-    return monitor_registers_lawful(r->mon_ctl, r->na) &&
-           alloc_ctl_lawful(r->alloc_ctl, r->na) &&
+    return monitor_registers_ok(r->mon_ctl, r->na) &&
+           alloc_ctl_ok(r->alloc_ctl, r->na) &&
            (r->block_mask & ~block_bits(r->ncblks)) == 0;
 }
 
-static bool pool_lawful(const struct bandwidth *b)
+static bool pool_ok(const struct bandwidth *b)
 {
     return b->r.pool_given <= (b->r.nbwblks - b->active_sum) * b->r.q;
 }
 
 /* Reads both settings tables, the used words, the counters and their settings,
  * and sets the two sums. */
-static bool BANDWIDTH_TABLES_LAWFUL(struct bandwidth *b);
+static bool BANDWIDTH_TABLES_OK(struct bandwidth *b);
 /* Reads the masks, the counters and their settings. */
-static bool CAPACITY_TABLES_LAWFUL(const struct capacity *c);
+static bool CAPACITY_TABLES_OK(const struct capacity *c);
 
-static bool pair_lawful(const uint8_t *row, uint64_t na, uint64_t at)
+static bool pair_ok(const uint8_t *row, uint64_t na, uint64_t at)
 {
     uint32_t word = load32(row, at);
     if (word == 0)
@@ -234,14 +234,14 @@ static bool pair_lawful(const uint8_t *row, uint64_t na, uint64_t at)
            is_holder(load32(row, target));
 }
 
-static bool settings_lawful(const uint8_t *table, const struct bandwidth_record *r,
+static bool settings_ok(const uint8_t *table, const struct bandwidth_record *r,
                             uint64_t *sum)
 {
     uint64_t total = 0;
     for (uint64_t rcid = 0; rcid < r->nr; rcid++) {
         const uint8_t *row = table + 4 * rcid * r->na;
         for (uint64_t at = 0; at < r->na; at++) {
-            if (!pair_lawful(row, r->na, at))
+            if (!pair_ok(row, r->na, at))
                 return false;
             total += load32(row, at) & RBWB; /* a sharer's is 0 */
         }
@@ -250,7 +250,7 @@ static bool settings_lawful(const uint8_t *table, const struct bandwidth_record 
     return total <= r->mrbwb;
 }
 
-static bool used_lawful(const struct bandwidth *b)
+static bool used_ok(const struct bandwidth *b)
 {
     for (uint64_t i = 0; i < b->r.nr * b->r.na; i++) {
         uint64_t reserved = load32(b->active, i) & RBWB; /* 0 if no holder */
@@ -260,7 +260,7 @@ static bool used_lawful(const struct bandwidth *b)
     return true;
 }
 
-static bool counters_lawful(const struct monitor *m, uint64_t flags, uint64_t w)
+static bool counters_ok(const struct monitor *m, uint64_t flags, uint64_t w)
 {
     for (uint64_t i = 0; i < m->nm; i++)
         if ((load64(m->counters, i) & ~flags) >> w)
@@ -268,7 +268,7 @@ static bool counters_lawful(const struct monitor *m, uint64_t flags, uint64_t w)
     return true;
 }
 
-static bool event_lawful(uint32_t setting, uint64_t na, uint64_t last_event)
+static bool event_ok(uint32_t setting, uint64_t na, uint64_t last_event)
 {
     if (setting == 0)
         return true;
@@ -278,15 +278,15 @@ static bool event_lawful(uint32_t setting, uint64_t na, uint64_t last_event)
     return setting & EVENT_ATV ? na > 1 && at < na : at == 0;
 }
 
-static bool events_lawful(const struct monitor *m)
+static bool events_ok(const struct monitor *m)
 {
     for (uint64_t i = 0; i < m->nm; i++)
-        if (!event_lawful(load16(m->events, i), m->na, m->last_event))
+        if (!event_ok(load16(m->events, i), m->na, m->last_event))
             return false;
     return true;
 }
 
-static bool masks_lawful(const struct capacity *c)
+static bool masks_ok(const struct capacity *c)
 {
     uint64_t outside = ~block_bits(c->r.ncblks);
     for (uint64_t i = 0; i < c->r.nr * c->r.na; i++)
@@ -295,20 +295,20 @@ static bool masks_lawful(const struct capacity *c)
     return true;
 }
 
-static bool bandwidth_tables_lawful(struct bandwidth *b)
+static bool bandwidth_tables_ok(struct bandwidth *b)
 {
-    return settings_lawful(b->active, &b->r, &b->active_sum) &&
-           settings_lawful(b->configured, &b->r, &b->configured_sum) &&
-           used_lawful(b) &&
-           counters_lawful(&b->monitor, BANDWIDTH_FLAGS, b->r.w) &&
-           events_lawful(&b->monitor);
+    return settings_ok(b->active, &b->r, &b->active_sum) &&
+           settings_ok(b->configured, &b->r, &b->configured_sum) &&
+           used_ok(b) &&
+           counters_ok(&b->monitor, BANDWIDTH_FLAGS, b->r.w) &&
+           events_ok(&b->monitor);
 }
 
-static bool capacity_tables_lawful(const struct capacity *c)
+static bool capacity_tables_ok(const struct capacity *c)
 {
-    return masks_lawful(c) &&
-           counters_lawful(&c->monitor, CAPACITY_INVALID, c->r.w) &&
-           events_lawful(&c->monitor);
+    return masks_ok(c) &&
+           counters_ok(&c->monitor, CAPACITY_INVALID, c->r.w) &&
+           events_ok(&c->monitor);
 }
 
 /* Opening a controller: the checks every call makes */
@@ -360,8 +360,8 @@ static uint64_t bandwidth_open(struct bandwidth *b, BANDWIDTH_SLICES())
     uint64_t refusal = bandwidth_attach(b, BANDWIDTH_PASSED);
     if (refusal)
         return refusal;
-    if (!bandwidth_registers_lawful(&b->r) || !BANDWIDTH_TABLES_LAWFUL(b) ||
-        !pool_lawful(b))
+    if (!bandwidth_registers_ok(&b->r) || !BANDWIDTH_TABLES_OK(b) ||
+        !pool_ok(b))
         return REFUSED_UNLAWFUL;
     return 0;
 }
@@ -376,7 +376,7 @@ static uint64_t capacity_open(struct capacity *c, CAPACITY_SLICES())
     uint64_t refusal = capacity_attach(c, CAPACITY_PASSED);
     if (refusal)
         return refusal;
-    if (!capacity_registers_lawful(&c->r) || !CAPACITY_TABLES_LAWFUL(c))
+    if (!capacity_registers_ok(&c->r) || !CAPACITY_TABLES_OK(c))
         return REFUSED_UNLAWFUL;
     return 0;
 }

@@ -1,6 +1,6 @@
 /*
  * Runs versions of the C interface side by side on the same random states,
- * lawful and damaged ones, and the same random calls: answers and every byte
+ * well-formed and damaged ones, and the same random calls: answers and every byte
  * of record and tables must be equal. The first version is plain.c; the others
  * are tuned.c and, compiled with -DWITH_LIBRARY, the library by its functions
  * on bytes and, where all tables have whole words, by those on words.

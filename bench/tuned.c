@@ -13,8 +13,8 @@
 #ifndef PREFIX
 #define PREFIX tuned_
 #endif
-#define BANDWIDTH_TABLES_LAWFUL tuned_bandwidth_tables_lawful
-#define CAPACITY_TABLES_LAWFUL tuned_capacity_tables_lawful
+#define BANDWIDTH_TABLES_OK tuned_bandwidth_tables_ok
+#define CAPACITY_TABLES_OK tuned_capacity_tables_ok
 #include "plain.c"
 
 enum {
@@ -134,8 +134,8 @@ static uint32_t any_word(const uint8_t *table, size_t n)
     return any;
 }
 
-/* Whether the part's rows are lawful; adds their Rbwb to *sum. */
-static bool part_lawful(const uint8_t *part, size_t rows, size_t na, uint64_t *sum)
+/* Whether the part's rows are well formed; adds their Rbwb to *sum. */
+static bool part_ok(const uint8_t *part, size_t rows, size_t na, uint64_t *sum)
 {
     uint32_t marks[PART];
     struct gathered g = gather(part, rows * na);
@@ -149,7 +149,7 @@ static bool part_lawful(const uint8_t *part, size_t rows, size_t na, uint64_t *s
 }
 
 /* Rbwb * Q is below 2^32 for every set-up. */
-static bool used_part_lawful(const uint8_t *restrict part,
+static bool used_part_ok(const uint8_t *restrict part,
                              const uint8_t *restrict used, size_t n, uint32_t q)
 {
     uint32_t bad = 0;
@@ -166,7 +166,7 @@ static bool all_zero(const uint8_t *active, const uint8_t *configured,
 }
 
 /* The rows from the given first one, in all three tables. */
-static bool rows_in_tables_lawful(struct bandwidth *b, size_t first, size_t rows)
+static bool rows_in_tables_ok(struct bandwidth *b, size_t first, size_t rows)
 {
     size_t na = b->r.na, n = rows * na, start = 4 * first * na;
     const uint8_t *active = b->active + start;
@@ -175,25 +175,25 @@ static bool rows_in_tables_lawful(struct bandwidth *b, size_t first, size_t rows
     uint64_t sum = 0;
     if (all_zero(active, configured, used, n))
         return true;
-    if (!part_lawful(active, rows, na, &sum) ||
-        !used_part_lawful(active, used, n, (uint32_t)b->r.q))
+    if (!part_ok(active, rows, na, &sum) ||
+        !used_part_ok(active, used, n, (uint32_t)b->r.q))
         return false;
     b->active_sum += sum;
     if (memcmp(active, configured, 4 * n) == 0)
         b->configured_sum += sum;
-    else if (!part_lawful(configured, rows, na, &b->configured_sum))
+    else if (!part_ok(configured, rows, na, &b->configured_sum))
         return false;
     return true;
 }
 
-static bool settings_and_used_lawful(struct bandwidth *b)
+static bool settings_and_used_ok(struct bandwidth *b)
 {
     size_t rows = PART / b->r.na;
     b->active_sum = 0;
     b->configured_sum = 0;
     for (size_t first = 0; first < b->r.nr; first += rows) {
         size_t left = b->r.nr - first;
-        if (!rows_in_tables_lawful(b, first, left < rows ? left : rows))
+        if (!rows_in_tables_ok(b, first, left < rows ? left : rows))
             return false;
     }
     return b->active_sum <= b->r.mrbwb && b->configured_sum <= b->r.mrbwb;
@@ -227,21 +227,21 @@ static uint16_t events_bad(const struct monitor *m)
     return bad;
 }
 
-static bool tuned_bandwidth_tables_lawful(struct bandwidth *b)
+static bool tuned_bandwidth_tables_ok(struct bandwidth *b)
 {
     const struct monitor *m = &b->monitor;
     if (b->r.nr * b->r.na <= SMALL)
-        return bandwidth_tables_lawful(b);
-    return settings_and_used_lawful(b) &&
+        return bandwidth_tables_ok(b);
+    return settings_and_used_ok(b) &&
            (any_word64(m->counters, m->nm) & ~BANDWIDTH_FLAGS) >> b->r.w == 0 &&
            events_bad(m) == 0;
 }
 
-static bool tuned_capacity_tables_lawful(const struct capacity *c)
+static bool tuned_capacity_tables_ok(const struct capacity *c)
 {
     const struct monitor *m = &c->monitor;
     if (c->r.nr * c->r.na <= SMALL)
-        return capacity_tables_lawful(c);
+        return capacity_tables_ok(c);
     return (any_word64(c->masks, c->r.nr * c->r.na) & ~block_bits(c->r.ncblks)) == 0 &&
            (any_word64(m->counters, m->nm) & ~CAPACITY_INVALID) >> c->r.w == 0 &&
            events_bad(m) == 0;

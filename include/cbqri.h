@@ -120,7 +120,7 @@
  * A counter word has the fields of mon_ctr_val. A counter setting has EVT_ID
  * in bits 7:0, AT in 10:8 and ATV in 11, and is 0 while the counter is stopped.
  *
- * Record and tables are lawful, as refusal 3 asks, when
+ * Record and tables are well formed, as refusal 3 asks, when
  * - both settings tables hold only such words, and in each the Rbwb of all
  *   holders together do not exceed MRBWB;
  * - used is at most Rbwb * Q for a holder in force, and 0 for other pairs;
@@ -183,14 +183,14 @@ extern "C" {
 
 /* Refusals, in the order in which they are checked. */
 enum {
-    CBQRI_REFUSED_SETUP = 1,    /* set-up outside its ranges, or a record of another length */
-    CBQRI_REFUSED_LENGTH = 2,   /* a table of another length than the set-up says */
-    CBQRI_REFUSED_UNLAWFUL = 3, /* record or table not lawful; not checked by a reset */
-    CBQRI_REFUSED_SIZE = 4,     /* access neither of 4 nor of 8 bytes */
-    CBQRI_REFUSED_OFFSET = 5,   /* offset no multiple of the size, or the end beyond byte 40 */
-    CBQRI_REFUSED_VALUE = 6,    /* 4-byte write of a value of 2^32 or more */
-    CBQRI_REFUSED_ID = 7,       /* RCID at or above NR, or MCID at or above NM */
-    CBQRI_REFUSED_BLOCK = 8     /* block at or above NCBLKS */
+    CBQRI_REFUSED_SETUP = 1,      /* set-up outside its ranges, or a record of another length */
+    CBQRI_REFUSED_LENGTH = 2,     /* a table of another length than the set-up says */
+    CBQRI_REFUSED_STATE = 3,      /* record or table not well formed; not checked by a reset */
+    CBQRI_REFUSED_SIZE = 4,       /* access neither of 4 nor of 8 bytes */
+    CBQRI_REFUSED_OFFSET = 5,     /* offset no multiple of the size, or the end beyond byte 40 */
+    CBQRI_REFUSED_VALUE = 6,      /* 4-byte write of a value of 2^32 or more */
+    CBQRI_REFUSED_IDENTIFIER = 7, /* RCID at or above NR, or MCID at or above NM */
+    CBQRI_REFUSED_BLOCK = 8       /* block at or above NCBLKS */
 };
 
 /* Register offsets. */

@@ -164,7 +164,7 @@ impl Bandwidth {
     ///
     /// # Errors
     ///
-    /// [`Refusal::Setup`], [`Refusal::Length`], [`Refusal::Unlawful`].
+    /// [`Refusal::Setup`], [`Refusal::Length`], [`Refusal::State`].
     ///
     /// ```
     /// use cbqri::{Bandwidth, BandwidthSetup, Refusal};
@@ -175,7 +175,7 @@ impl Bandwidth {
     /// assert_eq!(Bandwidth::from_buffers(saved.clone()).as_ref(), Ok(&bw));
     ///
     /// saved.active[0] = 10; // more than MRBWB
-    /// assert_eq!(Bandwidth::from_buffers(saved.clone()).err(), Some(Refusal::Unlawful));
+    /// assert_eq!(Bandwidth::from_buffers(saved.clone()).err(), Some(Refusal::State));
     /// saved.used.pop();
     /// assert_eq!(Bandwidth::from_buffers(saved).err(), Some(Refusal::Length));
     /// ```
@@ -303,7 +303,7 @@ impl Bandwidth {
     ///
     /// # Errors
     ///
-    /// [`Refusal::Id`].
+    /// [`Refusal::Identifier`].
     ///
     /// ```
     /// use cbqri::{Bandwidth, BandwidthSetup, Kind, Refusal};
@@ -314,7 +314,7 @@ impl Bandwidth {
     /// assert_eq!(bw.request(0, 0, 1, Kind::Read, 6000), Ok(6000));
     /// assert_eq!(bw.request(0, 0, 0, Kind::Read, 6000), Ok(400));
     /// assert_eq!(bw.request(1, 0, 0, Kind::Read, 1), Ok(0));
-    /// assert_eq!(bw.request(4, 0, 0, Kind::Read, 1), Err(Refusal::Id));
+    /// assert_eq!(bw.request(4, 0, 0, Kind::Read, 1), Err(Refusal::Identifier));
     /// ```
     pub fn request(
         &mut self,
@@ -336,7 +336,7 @@ impl Bandwidth {
     ///
     /// # Errors
     ///
-    /// None: a controller made by this crate is lawful.
+    /// None: a controller made by this crate is well formed.
     ///
     /// ```
     /// use cbqri::{Bandwidth, BandwidthSetup, Kind};

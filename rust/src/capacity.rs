@@ -126,7 +126,7 @@ impl Capacity {
     ///
     /// # Errors
     ///
-    /// [`Refusal::Setup`], [`Refusal::Length`], [`Refusal::Unlawful`].
+    /// [`Refusal::Setup`], [`Refusal::Length`], [`Refusal::State`].
     pub fn from_buffers(buffers: CapacityBuffers) -> Result<Capacity, Refusal> {
         let controller = Capacity { buffers };
         controller.read(8, registers::CAPABILITIES)?;
@@ -204,7 +204,7 @@ impl Capacity {
     ///
     /// # Errors
     ///
-    /// [`Refusal::Id`], [`Refusal::Block`].
+    /// [`Refusal::Identifier`], [`Refusal::Block`].
     ///
     /// ```
     /// use cbqri::{registers as reg, Capacity, CapacitySetup, Status};
@@ -236,7 +236,7 @@ impl Capacity {
     ///
     /// # Errors
     ///
-    /// [`Refusal::Id`], [`Refusal::Block`].
+    /// [`Refusal::Identifier`], [`Refusal::Block`].
     ///
     /// ```
     /// use cbqri::{registers as reg, Capacity, CapacitySetup};

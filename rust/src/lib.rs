@@ -80,7 +80,7 @@ pub const VERSION: &str = env!("CARGO_PKG_VERSION");
 /// assert_eq!(cc.read(2, 0), Err(Refusal::Size));
 /// assert_eq!(cc.read(8, 36), Err(Refusal::Offset));
 /// assert_eq!(cc.write(4, 32, 1 << 32), Err(Refusal::Value));
-/// assert_eq!(cc.fill(4, 0, 0, 0), Err(Refusal::Id));
+/// assert_eq!(cc.fill(4, 0, 0, 0), Err(Refusal::Identifier));
 /// assert_eq!(cc.fill(0, 0, 0, 64), Err(Refusal::Block));
 /// assert_eq!(Refusal::Block as u64, 8);
 /// ```
@@ -92,8 +92,8 @@ pub enum Refusal {
     Setup = 1,
     /// A table has another length than the set-up says.
     Length = 2,
-    /// The record or a table is not lawful.
-    Unlawful = 3,
+    /// The record or a table is not well formed.
+    State = 3,
     /// The access is neither of 4 nor of 8 bytes.
     Size = 4,
     /// The offset is no multiple of the size, or the access ends beyond byte 40.
@@ -101,7 +101,7 @@ pub enum Refusal {
     /// A 4-byte write carries a value of 2^32 or more.
     Value = 6,
     /// RCID at or above NR, or MCID at or above NM.
-    Id = 7,
+    Identifier = 7,
     /// Block at or above NCBLKS.
     Block = 8,
 }
@@ -113,11 +113,11 @@ impl Refusal {
             0 => return Ok(()),
             1 => Refusal::Setup,
             2 => Refusal::Length,
-            3 => Refusal::Unlawful,
+            3 => Refusal::State,
             4 => Refusal::Size,
             5 => Refusal::Offset,
             6 => Refusal::Value,
-            7 => Refusal::Id,
+            7 => Refusal::Identifier,
             8 => Refusal::Block,
             _ => unreachable!("libcbqri.a answers 0 to 8, not {answer}"),
         })
@@ -129,11 +129,11 @@ impl fmt::Display for Refusal {
         f.write_str(match self {
             Refusal::Setup => "set-up outside its ranges, or a record of another length",
             Refusal::Length => "a table of another length than the set-up says",
-            Refusal::Unlawful => "record or table not lawful",
+            Refusal::State => "record or table not well formed",
             Refusal::Size => "access neither of 4 nor of 8 bytes",
             Refusal::Offset => "offset no multiple of the size, or the end beyond byte 40",
             Refusal::Value => "4-byte write of a value of 2^32 or more",
-            Refusal::Id => "RCID at or above NR, or MCID at or above NM",
+            Refusal::Identifier => "RCID at or above NR, or MCID at or above NM",
             Refusal::Block => "block at or above NCBLKS",
         })
     }
