@@ -11,7 +11,7 @@ run:
 	@$(MAKE) --no-print-directory target/listing
 	@target/listing crates/listing/stdin
 
-# make test: prove every crate, try the edits, run every test; about 40 minutes; the last line is 'N passed, M failed'
+# make test: prove every crate, try the edits, run every test; about half an hour; the last line is 'N passed, M failed'
 test:
 	@tests/run
 
