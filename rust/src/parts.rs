@@ -53,7 +53,7 @@ impl Setting {
 pub struct Counter {
     /// What it has counted.
     pub value: u64,
-    /// INVALID: the value says nothing.
+    /// INVALID: a fill or an eviction came at an end of its range and was not counted.
     pub invalid: bool,
     /// OVF of a bandwidth counter: it wrapped.
     pub overflowed: bool,

@@ -21,23 +21,17 @@ use Rattle.monitor.proofs.Operations.{monStatus-lt}
 use Rattle.bandwidth_model.specs.Rules.{Setup, stored, allocStatus, badLimit}
 use Rattle.bandwidth_model.specs.Calls.{Call, reset, read, write, request, endWindow, done, value}
 use Rattle.bandwidth_model.specs.Model.{State, register, readAt, afterReset, afterWindow, writeAlloc, writeBw, withAlloc, withMonitor, writeAt, serve, serveFrom, requested, perform, step}
-use Rattle.bandwidth_model.specs.Ledger.{Ledger, accepted, note, started}
+use Rattle.bandwidth_model.specs.Ledger.{accepted, note, started}
 use Rattle.bandwidth_model.specs.Runs.{stateAfter, ledgerAfter, answerAfter}
 use Rattle.bandwidth_model.specs.Claim.{settingsBy}
 use Rattle.bandwidth_model.specs.Counters.{tally}
-use Rattle.bandwidth_model.specs.Registers.{Notes, notesStart, statusBy, monStatusBy, controlAfter, noteRegisters, notesAfter, RegisterReads, AllRegisterReads}
+use Rattle.bandwidth_model.specs.Registers.{Notes, notesStart, monStatusBy, allocBy, monBy, controlAfter, noteRegisters, notesAfter, RegisterReads, AllRegisterReads}
 use Rattle.bandwidth_model.proofs.Invariant.{Inv, inv-step}
 use Rattle.bandwidth_model.proofs.Counters.{Counts, counts-step, counts-first}
 use Rattle.bandwidth_model.proofs.Steps.{accepting, value-is}
 use Rattle.bandwidth_model.proofs.Lists.{reset-state, inv-first, inv-after}
 
 -- ---- the control registers after one call
-
-abbrev allocBy : Ledger → ℕ → ℕ
-allocBy l v = allocWord (l .setup .na) v 0 (statusBy l v)
-
-abbrev monBy : Ledger → ℕ → ℕ
-monBy l v = monWord (l .setup .na) v 0 (monStatusBy l v)
 
 module _ (s : State) where
   write-alloc : (offset v : ℕ)

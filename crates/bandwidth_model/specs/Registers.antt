@@ -17,7 +17,7 @@ use Rattle.bandwidth_model.specs.Rules.{Setup, allocStatus}
 use Rattle.bandwidth_model.specs.Calls.{Call, reset, read, write, request, endWindow, done, value}
 use Rattle.bandwidth_model.specs.Model.{State, capabilities, step}
 use Rattle.bandwidth_model.specs.Ledger.{Event, Ledger, accepted, started, note}
-use Rattle.bandwidth_model.specs.Runs.{stateAfter, ledgerAfter, answerAfter, eventAfter}
+use Rattle.bandwidth_model.specs.Runs.{ledgerAfter, answerAfter, eventAfter}
 use Rattle.bandwidth_model.specs.Claim.{settings}
 use Rattle.bandwidth_model.specs.Counters.{Tally, tallyStart, tally, tallyAfter}
 
@@ -41,6 +41,13 @@ statusBy l v = allocStatus (l .setup) (l .configured) (l .bw) v
 abbrev pub monStatusBy : Ledger → ℕ → ℕ
 monStatusBy l v = mon.monStatus (l .setup .na) (l .setup .nm) lastEvent v
 
+-- what each register holds after the write of a value: its fields, the STATUS and BUSY 0
+abbrev pub allocBy : Ledger → ℕ → ℕ
+allocBy l v = allocWord (l .setup .na) v reg.idle (statusBy l v)
+
+abbrev pub monBy : Ledger → ℕ → ℕ
+monBy l v = mon.monWord (l .setup .na) v reg.idle (monStatusBy l v)
+
 -- a control register after an accepted call: the word of the operation that a write of its low half performs, 0 after a reset
 unfoldable pub controlAfter : ℕ → (ℕ → ℕ) → ℕ → Call → ℕ
 controlAfter register word ctl (reset su) = 0
@@ -49,13 +56,13 @@ controlAfter register word ctl (write size offset v) = if access.writesLow offse
 controlAfter register word ctl (request rcid mcid at kind bytes) = ctl
 controlAfter register word ctl endWindow = ctl
 
--- the fields of what was written, the STATUS and BUSY 0; all else, refusals too, changes neither register
+-- a refused call changes neither register
 unfoldable pub noteRegisters : Notes → Event → Notes
 noteRegisters n e = record {
   ledger = note (n .ledger) e;
   tally = tally (n .tally) e;
-  allocCtl = if accepted (e .answer) then controlAfter access.allocCtl (λ v. allocWord (n .ledger .setup .na) v reg.idle (statusBy (n .ledger) v)) (n .allocCtl) (e .call) else n .allocCtl;
-  monCtl = if accepted (e .answer) then controlAfter access.monCtl (λ v. mon.monWord (n .ledger .setup .na) v reg.idle (monStatusBy (n .ledger) v)) (n .monCtl) (e .call) else n .monCtl;
+  allocCtl = if accepted (e .answer) then controlAfter access.allocCtl (allocBy (n .ledger)) (n .allocCtl) (e .call) else n .allocCtl;
+  monCtl = if accepted (e .answer) then controlAfter access.monCtl (monBy (n .ledger)) (n .monCtl) (e .call) else n .monCtl;
 }
 
 -- the notes after a list behind a reset with the set-up su on the state s
