@@ -30,7 +30,8 @@ word-at k zero i bs h = absurd (omega arith)
 word-at k (suc n) zero bs h = rw zero-mul
 word-at k (suc n) (suc i) bs h = word-at k n i (drop k bs) (omega arith) ∙ rw (drop-drop, suc-mul, add-comm k)
 
-all-append : (k : ℕ) (xs ys : List ℕ) → bytesOfAll k (xs ++ ys) ≡ bytesOfAll k xs ++ bytesOfAll k ys
+-- the bytes of words and, after them, of others
+pub all-append : (k : ℕ) (xs ys : List ℕ) → bytesOfAll k (xs ++ ys) ≡ bytesOfAll k xs ++ bytesOfAll k ys
 unfolding bytesOfAll
 all-append k [] ys = refl
 all-append k (x ∷ xs) ys = rw (all-append k xs ys, append-assoc)

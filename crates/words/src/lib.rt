@@ -1,4 +1,10 @@
 // Little-endian words of 16, 32 and 64 bits in bytes. Each width is made of two of half the width.
+mod part;
+
+pub use part::load_part16;
+pub use part::load_part32;
+pub use part::load_part64;
+pub use part::store_part32;
 ghost use mathlib.Core.Path.{_≡_};
 ghost use Prim.Native.Nat.{_+_, _*_, _<_, _≤_, _^_};
 ghost use lib.ListN.{length, take, drop, replicate};
