@@ -1,3 +1,2 @@
 pub mod Lengths
 pub mod Calls
-pub mod Changes

@@ -1,0 +1,39 @@
+// Reads on bytes.
+use crate::Answer;
+use crate::check::Check;
+use crate::check::checked;
+use access::Reading;
+use access::refusal_number;
+ghost use mathlib.Core.Path.{_≡_};
+ghost use mathlib.Core.List.{[], _∷_};
+ghost use Rattle.replies.specs.Replies.{reply};
+ghost use Rattle.bandwidth_model.specs.Calls.{read};
+ghost use Rattle.bandwidth_bytes.specs.Bytes.{stepBytes};
+ghost use Rattle.bandwidth_bytes.specs.View.{before, after};
+
+pub fn read(
+    record: &[u8],
+    active: &[u8],
+    configured: &[u8],
+    used: &[u8],
+    counters: &[u8],
+    events: &[u8],
+    size: u64,
+    offset: u64,
+) -> Answer
+    ensures { λ r. ⌜ reply (r .number) (r .value ∷ []) (after «record» active configured used counters events) ≡ stepBytes (before «record» active configured used counters events) (read size offset) ⌝ }
+{
+    match checked(record, active, configured, used, counters, events) {
+        Check::Failed(number) => Answer { number, value: 0 },
+        Check::Passed(held) => {
+            let given = held.record;
+            match given.reading(size, offset) {
+                Reading::Refused(why) => Answer {
+                    number: refusal_number(why),
+                    value: 0,
+                },
+                Reading::Value(value) => Answer { number: 0, value },
+            }
+        }
+    }
+}
