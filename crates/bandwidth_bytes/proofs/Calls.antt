@@ -3,18 +3,27 @@ use mathlib.Core.Path.{_≡_, refl, sym, ap, subst, _∙_}
 use mathlib.Core.Bool.{not}
 use mathlib.Core.List.{List, [], _∷_}
 use Prim.Native.Nat.{ℕ}
-use lib.Dec.{T}
-use Rattle.words.specs.Words.{wordsOf, bytesOfAll}
+use lib.Dec.{T, lit<}
+use lib.ListN.{length, replicate}
+use Rattle.words.specs.Words.{wordsOf, bytesOfAll, withWord, tableOf}
+use Rattle.words.proofs.Table.{zero-bytes}
+use Rattle.words.proofs.Held.{put-held}
+use Rattle.access.specs.Refusals.{numberOf}
+use Rattle.access.specs.declared.Refusal.{Refusal}
+use Rattle.access.specs.declared.Reading.{Reading}
+use Rattle.access.specs.declared.Reading.the-variants as reading
 use Rattle.replies.specs.Replies.{reply, refusal}
 use Rattle.replies.proofs.Laws as laws
-use Rattle.bandwidth_model.specs.Rules.{Setup}
+use Rattle.bandwidth_model.specs.Rules.{Setup, pairs}
 use Rattle.bandwidth_model.specs.Calls.{Call, reset, read, write, request, endWindow, refused, done, value, granted}
 use Rattle.bandwidth_model.specs.Claim.{isReset}
 use Rattle.bandwidth_model.specs.Model.{State, Outcome, step}
 use Rattle.bandwidth.specs.declared.Record.{Record}
-use Rattle.bandwidth.specs.View.{state, outcome}
+use Rattle.setup.specs.View.{setupOf}
+use Rattle.bandwidth.specs.View.{state, outcome, readingOf}
+use Rattle.bandwidth.proofs.Calls.{end-done}
 use Rattle.bandwidth_bytes.specs.Bytes.{Lent, lent, stateOf, bytesOf, pointers, Reply, replyTo, setupFor, byteRefusal, stepBytes}
-use Rattle.bandwidth_bytes.specs.View.{wordsIn, stateIn, Words, Passing, Checked}
+use Rattle.bandwidth_bytes.specs.View.{wordsIn, stateIn, Tables, Words, Passing, Checked}
 use Rattle.bandwidth_bytes.specs.declared.check.Held.{Held}
 use Rattle.bandwidth_bytes.specs.declared.check.Check.{Check}
 use Rattle.bandwidth_bytes.specs.declared.check.Check.the-variants.{Passed, Failed}
@@ -89,3 +98,30 @@ module _ {l : Lent} {h : Held} (p : Passing l h) where
 
     pub granted-then : (v : ℕ) (x : State) (l′ : Lent) → outcome (granted v) x ≡ step s c → l′ ≡ bytesOf x → reply 0 (v ∷ []) l′ ≡ stepBytes l c
     granted-then v x l′ e q = answered l (h .«record») (p .record-is) (p .none) c t _ e _ (ap (reply 0 (v ∷ [])) q)
+
+-- ---- each call
+
+module _ {l : Lent} {h : Held} (p : Passing l h) where
+  abbrev su : Setup
+  su = setupOf (h .«record» .setup)
+
+  abbrev tables : Tables su (l .active) (l .configured) (l .used) (l .counters) (l .events)
+  tables = p .long .tables
+
+  module _ (size offset : ℕ) {r : Reading} (o : outcome (readingOf r) (stateIn l (h .«record»)) ≡ step (stateIn l (h .«record»)) (read size offset)) where
+    pub read-refused : (why : Refusal) (n : ℕ) → r ≡ reading.Refused why → n ≡ numberOf why → reply n (0 ∷ []) l ≡ stepBytes l (read size offset)
+    unfolding pointers
+    read-refused why n e i = rw i (refused-then p (read size offset) tt (numberOf why) (rw e at o))
+
+    pub read-value : (v : ℕ) → r ≡ reading.Value v → reply 0 (v ∷ []) l ≡ stepBytes l (read size offset)
+    read-value v e = value-then p (read size offset) tt v (rw e at o)
+
+  -- a window end: the configured bytes come into force, nothing is used
+  pub window-ended : (R A U : List ℕ) → R ≡ withWord 8 (l .«record») 11 0 → A ≡ l .configured → U ≡ replicate (length (l .used)) 0
+      → reply 0 [] (lent R A (l .configured) U (l .counters) (l .events)) ≡ stepBytes l endWindow
+  window-ended R A U r a u =
+      let w = p .words in
+      let none : U ≡ bytesOfAll 4 (replicate (pairs su) 0) = rw (u, tables .used-long, zero-bytes) refl in
+      done-then p endWindow tt _ _ (end-done (p .passes) (tableOf 4 (l .configured)) (replicate (pairs su) 0) refl refl)
+      (same-bytes _ _ _ _ _ _ _ _ _ _ _ _ (r ∙ put-held 8 (lit< tt) 11 0 (l .«record») (wordsIn (h .«record»)) (w .«record»)) (a ∙ w .configured .bytes-are) (w .configured .bytes-are) none
+      (w .counters .bytes-are) (w .events .bytes-are))

@@ -6,11 +6,11 @@ use Prim.Native.Nat.{ℕ, _*_}
 use denote.Ref.{RefT}
 use denote.Triple.Both.{Both}
 use lib.Dec.{T}
-use lib.ListN.{length}
-use Rattle.words.specs.Words.{wordsOf, tableOf, Holds}
+use lib.ListN.{length, replicate}
+use Rattle.words.specs.Words.{wordsOf, bytesOfAll, tableOf, Holds}
 use Rattle.replies.specs.Replies.{refusal}
 use Rattle.setup.specs.View.{setupOf}
-use Rattle.bandwidth_model.specs.Rules.{Setup, pairs}
+use Rattle.bandwidth_model.specs.Rules.{Setup, pairs, resetTable}
 use Rattle.bandwidth_model.specs.Calls.{Call}
 use Rattle.bandwidth_model.specs.Claim.{isReset}
 use Rattle.bandwidth_model.specs.Model.{State}
@@ -42,14 +42,26 @@ wordsIn r = recordOf (state r [] [] [] [] [])
 abbrev pub stateIn : Lent → Record → State
 stateIn l r = state r (tableOf 4 (l .active)) (tableOf 4 (l .configured)) (tableOf 4 (l .used)) (tableOf 8 (l .counters)) (tableOf 2 (l .events))
 
--- each table's bytes have its length
+-- each table has the bytes of its words
+pub record Tables (su : Setup) (active configured used counters events : List ℕ) : Type 0 where
+  pub active-long : length active ≡ pairs su * 4
+  pub configured-long : length configured ≡ pairs su * 4
+  pub used-long : length used ≡ pairs su * 4
+  pub counters-long : length counters ≡ su .nm * 8
+  pub events-long : length events ≡ su .nm * 2
+
+-- and so does the record
 pub record Long (su : Setup) (l : Lent) : Type 0 where
   pub record-long : length (l .«record») ≡ recordLength
-  pub active-long : length (l .active) ≡ pairs su * 4
-  pub configured-long : length (l .configured) ≡ pairs su * 4
-  pub used-long : length (l .used) ≡ pairs su * 4
-  pub counters-long : length (l .counters) ≡ su .nm * 8
-  pub events-long : length (l .events) ≡ su .nm * 2
+  pub tables : Tables su (l .active) (l .configured) (l .used) (l .counters) (l .events)
+
+-- the tables that a reset leaves
+pub record Fresh (su : Setup) (active configured used counters events : List ℕ) : Type 0 where
+  pub active-is : active ≡ bytesOfAll 4 (resetTable su)
+  pub configured-is : configured ≡ bytesOfAll 4 (resetTable su)
+  pub used-is : used ≡ bytesOfAll 4 (replicate (pairs su) 0)
+  pub counters-are : counters ≡ bytesOfAll 8 (replicate (su .nm) 0)
+  pub events-are : events ≡ bytesOfAll 2 (replicate (su .nm) 0)
 
 -- the record and the tables are the words of the bytes, both ways
 pub record Words (l : Lent) (r : Record) : Type 0 where

@@ -18,7 +18,7 @@ ghost use Rattle.bandwidth_model.specs.Rules.{pairs, resetTable};
 ghost use Rattle.bandwidth_model.specs.Facts.{Ranges};
 ghost use Rattle.bandwidth_model.specs.Calls.{reset};
 ghost use Rattle.bandwidth_bytes.specs.Bytes.{stepBytes};
-ghost use Rattle.bandwidth_bytes.specs.View.{before, after};
+ghost use Rattle.bandwidth_bytes.specs.View.{before, after, Tables, Fresh};
 
 // The settings of a reset, with the words of RCID 0 set out in `row`.
 fn fill_table(setup: Setup, table: &mut [u8], row: &mut [u32])
@@ -37,6 +37,25 @@ fn reset_table(setup: Setup, table: &mut [u8])
     let na = setup.na as usize;
     let mut row = [0u32; 8];
     fill_table(setup, table, &mut row[..na]);
+}
+
+// The bytes of all tables of a reset.
+fn reset_tables(
+    setup: Setup,
+    active: &mut [u8],
+    configured: &mut [u8],
+    used: &mut [u8],
+    counters: &mut [u8],
+    events: &mut [u8],
+)
+    requires { ⌜ Ranges (setupOf setup) × Tables (setupOf setup) (now active) (now configured) (now used) (now counters) (now events) ⌝ }
+    ensures { λ r. ⌜ Fresh (setupOf setup) (now (active .exit)) (now (configured .exit)) (now (used .exit)) (now (counters .exit)) (now (events .exit)) ⌝ }
+{
+    reset_table(setup, configured);
+    copy8(active, configured);
+    clear8(used);
+    clear8(counters);
+    clear8(events);
 }
 
 pub fn reset(
@@ -63,10 +82,6 @@ pub fn reset(
         pool: 0,
     };
     store_record(fresh, record);
-    reset_table(setup, configured);
-    copy8(active, configured);
-    clear8(used);
-    clear8(counters);
-    clear8(events);
+    reset_tables(setup, active, configured, used, counters, events);
     0
 }
