@@ -11,11 +11,11 @@ use lib.Bits.{bitOr, bitXor, or-zero-r, xor-add-and, and-le-l, and-le-r}
 use lib.Dec.{leb, leb→le, le→leb}
 use lib.ListN.{length, getD}
 use lib.Pow.{pow-mono}
-use Rattle.tables.specs.Below.{sumBelow, gather}
+use Rattle.tables.specs.Below.{sumBelow, unionBelow}
 use Rattle.tables.proofs.Tests.{cases, cond-yes}
 use Rattle.tables.proofs.Laws.{sum-none, sum-add, sum-same, sum-le, sum-zero}
 use Rattle.wellformed.specs.Bits.{formBits, formAt, blocksAt, mark, markAt, lacking, rowAt, overAt, AtMost, Looked, Part}
-use Rattle.tables.proofs.Gather.{gather-none, gather-zero}
+use Rattle.tables.proofs.Union.{union-none, union-zero}
 use Rattle.wellformed.proofs.Bits.{or-ge-l, or-ge-r}
 use Rattle.wellformed.proofs.Forms.{unset, form-of}
 use Rattle.wellformed.proofs.Marks.{held-row}
@@ -71,24 +71,24 @@ module _ (f : ℕ → ℕ) (lo : ℕ) where
 xor-none : (a b : ℕ) → bitXor a b ≡ 0 → a ≡ b
 xor-none a b h = omega (arith, xor-add-and a b, and-le-l a b, and-le-r a b)
 
-gather-same : (n : ℕ) (f g : ℕ → ℕ) → ((k : ℕ) → k < n → f k ≡ g k) → gather n f ≡ gather n g
-unfolding gather
-gather-same zero f g h = refl
-gather-same (suc n) f g h = rw (gather-same n f g (λ k b. h k (omega arith)), h n (omega arith))
+union-same : (n : ℕ) (f g : ℕ → ℕ) → ((k : ℕ) → k < n → f k ≡ g k) → unionBelow n f ≡ unionBelow n g
+unfolding unionBelow
+union-same zero f g h = refl
+union-same (suc n) f g h = rw (union-same n f g (λ k b. h k (omega arith)), h n (omega arith))
 
 -- ---- parts with nothing in them
 
-gather-skip : (f : ℕ → ℕ) (lo d : ℕ) → ((k : ℕ) → lo ≤ k → k < lo + d → f k ≡ 0) → gather (lo + d) f ≡ gather lo f
-unfolding gather
-gather-skip f lo zero h = rw (add-zero lo)
-gather-skip f lo (suc d) h =
-    ap (λ (x : ℕ). gather x f) (add-suc lo d) ∙ ap (bitOr (gather (lo + d) f)) (h (lo + d) (omega arith) (omega arith))
-    ∙ or-zero-r (gather (lo + d) f) ∙ gather-skip f lo d (λ k a b. h k a (omega arith))
+union-skip : (f : ℕ → ℕ) (lo d : ℕ) → ((k : ℕ) → lo ≤ k → k < lo + d → f k ≡ 0) → unionBelow (lo + d) f ≡ unionBelow lo f
+unfolding unionBelow
+union-skip f lo zero h = rw (add-zero lo)
+union-skip f lo (suc d) h =
+    ap (λ (x : ℕ). unionBelow x f) (add-suc lo d) ∙ ap (bitOr (unionBelow (lo + d) f)) (h (lo + d) (omega arith) (omega arith))
+    ∙ or-zero-r (unionBelow (lo + d) f) ∙ union-skip f lo d (λ k a b. h k a (omega arith))
 
 module _ (lo hi : ℕ) (order : lo ≤ hi) where
-  skipped : (f : ℕ → ℕ) → ((k : ℕ) → lo ≤ k → k < hi → f k ≡ 0) → gather hi f ≡ gather lo f
+  skipped : (f : ℕ → ℕ) → ((k : ℕ) → lo ≤ k → k < hi → f k ≡ 0) → unionBelow hi f ≡ unionBelow lo f
   skipped f h =
-      ap (λ (x : ℕ). gather x f) (sym (add-sub-of-le {n = hi} {m = lo} order)) ∙ gather-skip f lo (hi - lo) (λ k a b. h k a (omega arith))
+      ap (λ (x : ℕ). unionBelow x f) (sym (add-sub-of-le {n = hi} {m = lo} order)) ∙ union-skip f lo (hi - lo) (λ k a b. h k a (omega arith))
 
   sum-from : (f : ℕ → ℕ) → sumBelow hi f ≡ sumBelow lo f + sumBelow (hi - lo) (λ i. f (lo + i))
   sum-from f = ap (λ (x : ℕ). sumBelow x f) (sym (add-sub-of-le {n = hi} {m = lo} order)) ∙ sum-add lo (hi - lo) f
@@ -104,7 +104,7 @@ module _ (lo hi : ℕ) (order : lo ≤ hi) where
 -- rows of a part: where no AT is named, and of words 0
 module _ (na lo hi : ℕ) (t : List ℕ) (any : ℕ) (fit : (i : ℕ) → getD t i 0 < 4294967296) (order : lo ≤ hi)
     (h : AtMost (λ k. getD t k 0) (lo * na) (hi * na) any) where
-  pub rows-skip : any < 268435456 → gather hi (rowAt na t) ≡ gather lo (rowAt na t)
+  pub rows-skip : any < 268435456 → unionBelow hi (rowAt na t) ≡ unionBelow lo (rowAt na t)
   unfolding rowAt markAt
   rows-skip s =
       skipped lo hi order (rowAt na t)
@@ -140,14 +140,14 @@ module _ (na lo hi : ℕ) (t u : List ℕ) (p : Part na lo hi t) {differ f r b g
   same-row : (k : ℕ) → lo ≤ k → k < hi → rowAt na t k ≡ rowAt na u k
   unfolding rowAt markAt
   same-row k i j =
-      ap lacking (gather-same na (markAt t (k * na)) (markAt u (k * na))
+      ap lacking (union-same na (markAt t (k * na)) (markAt u (k * na))
       (λ x l. ap (mark x) (same-word (k * na + x) (omega (arith, mul-le-mul-right {m = lo} {n = k} na i)) (omega (arith, row-fits k hi na j)))))
 
   form-clear : (k : ℕ) → k < hi * na → formAt t k ≡ 0
-  form-clear = gather-zero (hi * na) (formAt t) (sym (after .words .bits-are) ∙ omega (arith, or-ge-l (bitOr differ g) s, or-ge-r differ g))
+  form-clear = union-zero (hi * na) (formAt t) (sym (after .words .bits-are) ∙ omega (arith, or-ge-l (bitOr differ g) s, or-ge-r differ g))
 
   rows-clear : (k : ℕ) → k < hi → rowAt na t k ≡ 0
-  rows-clear = gather-zero hi (rowAt na t) (sym (after .rows-are) ∙ omega (arith, or-ge-r (bitOr differ g) s))
+  rows-clear = union-zero hi (rowAt na t) (sym (after .rows-are) ∙ omega (arith, or-ge-r (bitOr differ g) s))
 
   pub part-same : {form rows blocks : ℕ} → Looked na u lo form rows blocks → Looked na u hi form rows (blocks + (c - b))
   unfolding formAt blocksAt
@@ -176,11 +176,11 @@ looked-none na t =
     record {
       words =
           record {
-            bits-are = sym (ap (λ (x : ℕ). gather x (formAt t)) (zero-mul na) ∙ gather-none (formAt t));
+            bits-are = sym (ap (λ (x : ℕ). unionBelow x (formAt t)) (zero-mul na) ∙ union-none (formAt t));
             blocks-are = sym (ap (λ (x : ℕ). sumBelow x (blocksAt t)) (zero-mul na) ∙ sum-none (blocksAt t));
             small = omega arith;
           };
-      rows-are = sym (gather-none (rowAt na t));
+      rows-are = sym (union-none (rowAt na t));
     }
 
 -- ---- parts with not too much used
@@ -198,11 +198,11 @@ module _ (q : ℕ) (active used : List ℕ) (k : ℕ) where
 
 module _ (q : ℕ) (active used : List ℕ) (lo hi any : ℕ) (order : lo ≤ hi) (z : any ≡ 0) where
   -- nothing is used
-  pub used-skip : AtMost (λ k. getD used k 0) lo hi any → gather hi (overAt q active used) ≡ gather lo (overAt q active used)
+  pub used-skip : AtMost (λ k. getD used k 0) lo hi any → unionBelow hi (overAt q active used) ≡ unionBelow lo (overAt q active used)
   used-skip h = skipped lo hi order (overAt q active used) (λ k a b. within q active used k (omega (arith, h .each k a b)))
 
   -- no more than a smaller q allows
-  pub rough-skip : (p : ℕ) → p ≤ q → AtMost (overAt p active used) lo hi any → gather hi (overAt q active used) ≡ gather lo (overAt q active used)
+  pub rough-skip : (p : ℕ) → p ≤ q → AtMost (overAt p active used) lo hi any → unionBelow hi (overAt q active used) ≡ unionBelow lo (overAt q active used)
   rough-skip p l h =
       skipped lo hi order (overAt q active used)
       (λ k a b. within q active used k

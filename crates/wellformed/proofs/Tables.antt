@@ -8,7 +8,7 @@ use native.Mathlib.Omega.{arith}
 use lib.Dec.{T, eqb, eqb→eq, leb, leb→le, le→leb}
 use lib.ListN.{length, getD}
 use Rattle.fields.specs.Registers as reg
-use Rattle.tables.specs.Below.{sumBelow, sumOf, allBelow, gather}
+use Rattle.tables.specs.Below.{sumBelow, sumOf, allBelow, unionBelow}
 use Rattle.tables.proofs.Tests.{and-l, and-r, and-in, eqb-in, same-test}
 use Rattle.tables.proofs.Laws.{sum-same, all-same}
 use Rattle.access.specs.Pairs.{pair, wordAt}
@@ -22,7 +22,7 @@ use Rattle.bandwidth_model.proofs.Words.{shared-0, blocks-0, shared-1, not-0, s
 use Rattle.bandwidth_model.proofs.Settings.{View, unset, holds, follows, TableFacts, table-ok, table-facts}
 use Rattle.wellformed.specs.Bits.{formAt, blocksAt, markAt, rowAt, overAt, Looked}
 use Rattle.wellformed.specs.Tables.{tablesOk}
-use Rattle.tables.proofs.Gather.{gather-zero, zero-gather, none-bad}
+use Rattle.tables.proofs.Union.{union-zero, zero-union, none-bad}
 use Rattle.wellformed.proofs.Forms as forms
 use Rattle.wellformed.proofs.Forms.{Form, low-blocks, shares-top, formed, form-of, form-shares, form-reserved}
 use Rattle.wellformed.proofs.Marks.{Led, row-held, held-row}
@@ -69,18 +69,18 @@ module _ (su : Setup) (t : List ℕ) (long : length t ≡ pairs su) where
 
   module _ (fit : (i : ℕ) → getD t i 0 < 4294967296) where
     -- from the passes to the facts
-    module _ (form : gather (su .nr * su .na) (formAt t) ≡ 0) (rows : gather (su .nr) (rowAt (su .na) t) ≡ 0) where
+    module _ (form : unionBelow (su .nr * su .na) (formAt t) ≡ 0) (rows : unionBelow (su .nr) (rowAt (su .na) t) ≡ 0) where
       module _ (rcid at : ℕ) (hr : rcid < su .nr) (ha : at < su .na) where
         led : Led (su .na) (wordAt (su .na) t rcid) at
         unfolding wordAt pair rowAt markAt
         led =
-            row-held (su .na) (wordAt (su .na) t rcid) (λ a. fit (rcid * su .na + a)) (gather-zero (su .nr) (rowAt (su .na) t) rows rcid hr) at ha
+            row-held (su .na) (wordAt (su .na) t rcid) (λ a. fit (rcid * su .na + a)) (union-zero (su .nr) (rowAt (su .na) t) rows rcid hr) at ha
 
         pair-form : Form (wordAt (su .na) t rcid at)
         unfolding pairs wordAt formAt
         pair-form =
             let i = pair (su .na) rcid at in
-            formed (getD t i 0) (fit i) (gather-zero (su .nr * su .na) (formAt t) form i (pair-inside (su .nr) (su .na) rcid at hr ha)) (λ p. led p .0)
+            formed (getD t i 0) (fit i) (union-zero (su .nr * su .na) (formAt t) form i (pair-inside (su .nr) (su .na) rcid at hr ha)) (λ p. led p .0)
 
       word : (i : ℕ) → i < pairs su → Form (getD t i 0)
       word = by-pair pair-form
@@ -100,14 +100,14 @@ module _ (su : Setup) (t : List ℕ) (long : length t ≡ pairs su) where
               (form-holder (pair-form rcid (sharedAtOf w) hr (g .0)) (g .1))
 
     -- from the facts to the passes
-    no-form : TableFacts su t → gather (su .nr * su .na) (formAt t) ≡ 0
+    no-form : TableFacts su t → unionBelow (su .nr * su .na) (formAt t) ≡ 0
     unfolding pairs formAt
-    no-form f = zero-gather (su .nr * su .na) (formAt t) (λ i l. form-of (getD t i 0) (fit i) (words-form f i l))
+    no-form f = zero-union (su .nr * su .na) (formAt t) (λ i l. form-of (getD t i 0) (fit i) (words-form f i l))
 
-    no-rows : TableFacts su t → gather (su .nr) (rowAt (su .na) t) ≡ 0
+    no-rows : TableFacts su t → unionBelow (su .nr) (rowAt (su .na) t) ≡ 0
     unfolding wordAt pair rowAt markAt
     no-rows f =
-        zero-gather (su .nr) (rowAt (su .na) t)
+        zero-union (su .nr) (rowAt (su .na) t)
         (λ rcid hr. held-row (su .na) (wordAt (su .na) t rcid) (λ a. fit (rcid * su .na + a)) (λ at ha. leads rcid at hr (f .words rcid at hr ha)))
       where
         leads : (rcid at : ℕ) → rcid < su .nr → View su t rcid at (wordAt (su .na) t rcid at) → Led (su .na) (wordAt (su .na) t rcid) at
@@ -159,7 +159,7 @@ module _ (su : Setup) (t : List ℕ) (long : length t ≡ pairs su) where
 
 -- by Rbwb alone
 pub used-test : (q n : ℕ) (active used : List ℕ)
-    → eqb (gather n (overAt q active used)) 0 ≡ allBelow n (λ i. leb (getD used i 0) (rbwbOf (getD active i 0) * q))
+    → eqb (unionBelow n (overAt q active used)) 0 ≡ allBelow n (λ i. leb (getD used i 0) (rbwbOf (getD active i 0) * q))
 unfolding overAt blocksAt
 used-test q n active used =
     none-bad n 4294967294 (λ i. leb (getD used i 0) (blocksAt active i * q))
