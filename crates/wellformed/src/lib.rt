@@ -4,6 +4,8 @@ mod rows;
 mod settings;
 mod usage;
 
+use monitor::bandwidth_counters_ok;
+use monitor::events_ok;
 pub use parts::Span;
 pub use parts::span_at;
 pub use settings::Sums;
@@ -11,8 +13,6 @@ pub use settings::TableSums;
 pub use settings::add_sums;
 pub use settings::no_sums;
 pub use settings::sum_rows;
-use monitor::bandwidth_counters_ok;
-use monitor::events_ok;
 use settings::sum_tables;
 use settings::table_ok;
 use setup::Setup;

@@ -28,7 +28,7 @@ struct Scan {
 }
 
 // The words one by one: a number that none is above, the bits that may not be there, and the blocks.
-fn scan(t: &[u32]) -> Scan
+fn scan_words(t: &[u32]) -> Scan
     requires { ⌜ length (now t) ≤ 2048 ⌝ }
     ensures { λ r. ⌜ Scanned (now (t .entry)) (length (now (t .entry))) (r .any) (r .form) (r .blocks) ⌝ }
 {
@@ -63,7 +63,7 @@ fn sum_table(t: &[u32], rows: usize, na: u32) -> TableSums
             blocks: 0,
         };
     }
-    let s = scan(t);
+    let s = scan_words(t);
     if s.any >> 28 == 0 {
         return TableSums {
             form: s.form,
