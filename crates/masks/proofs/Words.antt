@@ -7,10 +7,10 @@ use native.Mathlib.Omega.{arith}
 use lib.Dec.{leb, ltb, eqb, leb→le, le→leb, ltb→lt, lt→ltb, eqb→eq}
 use lib.ListN.{drop, replicate}
 use lib.Pow.{pow-pos}
-use Rattle.tables.specs.Below.{gather, allBelow}
+use Rattle.tables.specs.Below.{unionBelow, allBelow}
 use Rattle.tables.proofs.Tests.{eqb-in, same-test}
 use Rattle.tables.proofs.Laws.{all-same, drop-replicate}
-use Rattle.tables.proofs.Gather.{low-test, gather-below}
+use Rattle.tables.proofs.Union.{low-test, union-low}
 use Rattle.access.proofs.Pairs.{rows}
 use Rattle.capacity_model.specs.Rules.{Setup, pairs, maskOf, allBlocks, resetMasks}
 
@@ -31,11 +31,11 @@ held-test su x =
     low : x ≡ x % 2 ^ su .ncblks → x < 2 ^ su .ncblks
     low e = rw e (mod-lt x (pow-pos (su .ncblks)))
 
-pub masks-test : (su : Setup) (n : ℕ) (f : ℕ → ℕ) → leb (gather n f) (allBlocks su) ≡ allBelow n (λ i. eqb (f i) (maskOf su (f i)))
+pub masks-test : (su : Setup) (n : ℕ) (f : ℕ → ℕ) → leb (unionBelow n f) (allBlocks su) ≡ allBelow n (λ i. eqb (f i) (maskOf su (f i)))
 unfolding allBlocks
 masks-test su n f =
     let k = su .ncblks in
-    ones-test k (gather n f) ∙ sym (low-test k (gather n f)) ∙ gather-below k n f ∙ all-same n _ _ (λ i l. held-test su (f i))
+    ones-test k (unionBelow n f) ∙ sym (low-test k (unionBelow n f)) ∙ union-low k n f ∙ all-same n _ _ (λ i l. held-test su (f i))
 
 -- 0 everywhere, then every block for RCID 0
 pub reset-words : (su : Setup) → 1 ≤ su .nr → replicate (su .na) (allBlocks su) ++ drop (su .na) (replicate (pairs su) 0) ≡ resetMasks su
