@@ -4,7 +4,7 @@ use mathlib.Core.List.{List, [], _∷_, _++_}
 use Prim.Native.Nat.{ℕ, zero, suc, _+_, _-_, _*_, _/_, _^_, _≤_, _<_}
 use native.Mathlib.Nat.{zero-mul, suc-mul, suc-add, zero-add, add-comm, le-div-iff-mul-le, le-of-mul-le-mul-right, div-eq-of-eq-mul-left}
 use native.Mathlib.Omega.{arith}
-use lib.ListN.{length, getD, take, drop, take-append-drop, length-drop}
+use lib.ListN.{length, getD, take, drop, take-append-drop, length-drop, List·getD-eq-default}
 use lib.Seq.{take-all, length-take-le, drop-drop, take-at, drop-at}
 use Rattle.tables.specs.Parts.{part, withPart}
 use Rattle.words.specs.Words.{wordOf, wordsOf, bytesOfAll, tableOf, Holds, Below}
@@ -85,6 +85,19 @@ module _ (k n : ℕ) (bs : List ℕ) (z : 0 < k) (e : length bs ≡ n * k) where
   pub table-at : (i : ℕ) → i < n → getD (tableOf k bs) i 0 ≡ wordOf (take k (drop (i * k) bs))
   unfolding tableOf
   table-at i h = word-at k (length bs / k) i bs (rw number h)
+
+-- a table of bytes by its length alone
+module _ (k : ℕ) (bs : List ℕ) where
+  pub entries : length (tableOf k bs) ≡ length bs / k
+  unfolding tableOf
+  entries = length-words k (length bs / k) bs
+
+  pub entry-in : (i w : ℕ) → i < length bs / k → w ≡ wordOf (take k (drop (i * k) bs)) → w ≡ getD (tableOf k bs) i 0
+  unfolding tableOf
+  entry-in i w h e = e ∙ sym (word-at k (length bs / k) i bs h)
+
+  pub entry-out : (i : ℕ) → length bs / k ≤ i → 0 ≡ getD (tableOf k bs) i 0
+  entry-out i h = sym (List·getD-eq-default (tableOf k bs) 0 {n = i} (omega (arith, entries)))
 
 below-every : (m : ℕ) (xs : List ℕ) → 0 < m → Below m xs → (i : ℕ) → getD xs i 0 < m
 below-every m [] z h i = z

@@ -1,6 +1,10 @@
 // Little-endian words of 16, 32 and 64 bits in bytes. Each width is made of two of half the width.
+mod entry;
 mod part;
 
+pub use entry::union64;
+pub use entry::word16;
+pub use entry::word64;
 pub use part::load_part16;
 pub use part::load_part32;
 pub use part::load_part64;
