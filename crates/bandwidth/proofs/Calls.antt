@@ -155,7 +155,7 @@ module _ {s : State} {t : Totals} (p : Passes s t) {rcid a from to : ℕ} (at by
 
 -- a write to alloc_ctl by the words of the RCID that it names
 module _ {s : State} {t : Totals} (p : Passes s t) where
-  ready : Ready (s .setup) (s .alloc .configured) (t .configured)
+  pub ready : Ready (s .setup) (s .alloc .configured) (t .configured)
   ready = record { ranges = p .ranges; long = p .sized .configured-long; sum = p .totals .configured }
 
   pub alloc-reserves : Reserves (s .setup) (t .configured)

@@ -1,29 +1,43 @@
 -- A call on bytes: refused by checks 1 to 3, or answered by the model's step.
 use mathlib.Core.Path.{_≡_, refl, sym, ap, subst, _∙_}
-use mathlib.Core.Bool.{not}
+use mathlib.Core.Bool.{true, false, not, cond, _||_}
 use mathlib.Core.List.{List, [], _∷_}
-use Prim.Native.Nat.{ℕ}
-use lib.Dec.{T, lit<}
-use lib.ListN.{length, replicate}
-use Rattle.words.specs.Words.{wordsOf, bytesOfAll, withWord, tableOf}
+use Prim.Native.Nat.{ℕ, _-_}
+use native.Mathlib.Omega.{arith}
+use lib.Dec.{T, leb, lit<}
+use lib.ListN.{length, getD, set, replicate}
+use Rattle.tables.specs.Below.{Small}
+use Rattle.tables.specs.Parts.{RowAt}
+use Rattle.words.specs.Words.{wordsOf, bytesOfAll, withWord, tableOf, Holds}
 use Rattle.words.proofs.Table.{zero-bytes}
 use Rattle.words.proofs.Held.{put-held}
+use Rattle.access.specs.Access.{registersEnd, writeChecks}
+use Rattle.access.specs.Checks.{first}
+use Rattle.access.specs.Pairs.{knownAt}
 use Rattle.access.specs.Refusals.{numberOf}
 use Rattle.access.specs.declared.Refusal.{Refusal}
 use Rattle.access.specs.declared.Reading.{Reading}
 use Rattle.access.specs.declared.Reading.the-variants as reading
+use Rattle.monitor.specs.Monitor.{monStatus, monAfter}
+use Rattle.monitor.specs.Bytes.{lastEvent, countsRequest, added}
+use Rattle.monitor.specs.View.{monitorOf}
+use Rattle.monitor.specs.declared.Registers.{Registers}
+use Rattle.monitor_bytes.specs.Monitor as monitor
+use Rattle.settings.specs.declared.Written.{Written}
+use Rattle.grants.specs.declared.Given.{Given}
 use Rattle.replies.specs.Replies.{reply, refusal}
 use Rattle.replies.proofs.Laws as laws
-use Rattle.bandwidth_model.specs.Rules.{Setup, pairs}
+use Rattle.bandwidth_model.specs.Rules.{Setup, pairs, bwWord}
 use Rattle.bandwidth_model.specs.Calls.{Call, reset, read, write, request, endWindow, refused, done, value, granted}
 use Rattle.bandwidth_model.specs.Claim.{isReset}
-use Rattle.bandwidth_model.specs.Model.{State, Outcome, step}
-use Rattle.bandwidth.specs.declared.Record.{Record}
+use Rattle.bandwidth_model.specs.Model.{State, Outcome, writeAlloc, writeAt, step}
 use Rattle.setup.specs.View.{setupOf}
+use Rattle.bandwidth.specs.declared.Record.{Record}
 use Rattle.bandwidth.specs.View.{state, outcome, readingOf}
-use Rattle.bandwidth.proofs.Calls.{end-done}
+use Rattle.bandwidth.proofs.Calls as bandwidth
+use Rattle.bandwidth.proofs.Calls.{end-done, request-unknown, request-done, known-rcid, request-fits, serve-row, write-alloc-at, write-bw-at, write-mon-at, write-none}
 use Rattle.bandwidth_bytes.specs.Bytes.{Lent, lent, stateOf, bytesOf, pointers, Reply, replyTo, setupFor, byteRefusal, stepBytes}
-use Rattle.bandwidth_bytes.specs.View.{wordsIn, stateIn, Tables, Words, Passing, Checked}
+use Rattle.bandwidth_bytes.specs.View.{wordsIn, stateIn, Tables, Words, Passing, Checked, GiveFits, Gave, Stores}
 use Rattle.bandwidth_bytes.specs.declared.check.Held.{Held}
 use Rattle.bandwidth_bytes.specs.declared.check.Check.{Check}
 use Rattle.bandwidth_bytes.specs.declared.check.Check.the-variants.{Passed, Failed}
@@ -125,3 +139,85 @@ module _ {l : Lent} {h : Held} (p : Passing l h) where
       done-then p endWindow tt _ _ (end-done (p .passes) (tableOf 4 (l .configured)) (replicate (pairs su) 0) refl refl)
       (same-bytes _ _ _ _ _ _ _ _ _ _ _ _ (r ∙ put-held 8 (lit< tt) 11 0 (l .«record») (wordsIn (h .«record»)) (w .«record»)) (a ∙ w .configured .bytes-are) (w .configured .bytes-are) none
       (w .counters .bytes-are) (w .events .bytes-are))
+
+  -- ---- requests
+
+  module _ (rcid mcid at kind bytes : ℕ) where
+    pub request-unnamed : (leb (su .nr) rcid || leb (su .nm) mcid) ≡ true → reply 7 (0 ∷ []) l ≡ stepBytes l (request rcid mcid at kind bytes)
+    unfolding pointers
+    request-unnamed e = refused-then p (request rcid mcid at kind bytes) tt 7 (request-unknown (p .passes) rcid mcid at kind bytes e)
+
+    module _ (e : (leb (su .nr) rcid || leb (su .nm) mcid) ≡ false) {a from to : ℕ} (k : a ≡ knownAt (su .na) at) (w : RowAt (su .nr) (su .na) rcid from to) where
+      -- the words of the RCID
+      pub give-in : GiveFits su (l .active) (l .used) from (to - from) (h .«record» .pool) (h .totals .active) a bytes
+      unfolding pairs
+      give-in = record {
+        active-in = omega (arith, w .order, w .inside, tables .active-long);
+        used-in = omega (arith, w .order, w .inside, tables .used-long);
+        fits = request-fits (p .passes) at bytes (known-rcid (su .nr) (su .nm) rcid mcid e) k w;
+      }
+
+      pub served : {r : Given} {R U N : List ℕ} → Gave su (l .active) (l .used) from (to - from) (h .«record» .pool) (h .totals .active) a bytes U r
+          → R ≡ withWord 8 (l .«record») 11 (r .pool)
+          → ((ns es : List ℕ) → Holds 8 (l .counters) ns → Holds 2 (l .events) es
+          → N ≡ bytesOfAll 8 (cond (countsRequest (getD es mcid 0) a kind) (set ns mcid (added (su .w) (r .bytes) (getD ns mcid 0))) ns))
+          → reply 0 (r .bytes ∷ []) (lent R (l .active) (l .configured) U N (l .events)) ≡ stepBytes l (request rcid mcid at kind bytes)
+      served {r} g q n =
+          let x = p .words in
+          granted-then p (request rcid mcid at kind bytes) tt (r .bytes) _ _
+          (request-done (p .passes) rcid mcid at kind bytes e _ (serve-row (p .passes) at bytes (known-rcid (su .nr) (su .nm) rcid mcid e) k w mcid kind (g .given) refl))
+          (same-bytes _ _ _ _ _ _ _ _ _ _ _ _ (q ∙ put-held 8 (lit< tt) 11 (r .pool) (l .«record») (wordsIn (h .«record»)) (x .«record»)) (x .active .bytes-are) (x .configured .bytes-are)
+          (g .bytes-are (x .used .bytes-are)) (n _ _ (x .counters) (x .events)) (x .events .bytes-are))
+
+  -- ---- writes
+
+  module _ (size offset v : ℕ) where
+    pub write-refused : (why : Refusal) (n : ℕ) → numberOf why ≡ first (writeChecks registersEnd size offset v) 0 → n ≡ numberOf why → reply n [] l ≡ stepBytes l (write size offset v)
+    unfolding pointers
+    write-refused why n e i = rw i (refused-then p (write size offset v) tt (numberOf why) (bandwidth.write-refused (p .passes) size offset v why e))
+
+    pub written : (r : Record) (R A C U N E : List ℕ) → 0 ≡ first (writeChecks registersEnd size offset v) 0 → R ≡ bytesOfAll 8 (wordsIn r)
+        → lent (bytesOfAll 8 (wordsIn r)) A C U N E ≡ bytesOf (writeAt (stateIn l (h .«record»)) offset v) → reply 0 [] (lent R A C U N E) ≡ stepBytes l (write size offset v)
+    written r R A C U N E e q b =
+        done-then p (write size offset v) tt _ _ (bandwidth.write-done (p .passes) size offset v _ e refl) (ap (λ (x : List ℕ). lent x A C U N E) q ∙ b)
+
+  module _ (offset v : ℕ) where
+    abbrev old : Record
+    old = h .«record»
+
+    abbrev left : State
+    left = writeAt (stateIn l old) offset v
+
+    pub alloc-written : {r : Written} {C : List ℕ} → offset ≡ 24 → Stores (writeAlloc su (old .«bw_alloc») (tableOf 4 (l .configured)) v) r C
+        → lent (bytesOfAll 8 (wordsIn (record { setup = old .setup; «mon_ctl» = old .«mon_ctl»; «mon_ctr_val» = old .«mon_ctr_val»; «alloc_ctl» = r .ctl; «bw_alloc» = r .bw; pool = old .pool })))
+        (l .active) C (l .used) (l .counters) (l .events) ≡ bytesOf left
+    alloc-written {r} {C} e s =
+        let x = p .words in
+        same-bytes _ _ _ _ _ _ _ _ _ _ _ _ refl (x .active .bytes-are) (s .bytes-are) (x .used .bytes-are) (x .counters .bytes-are) (x .events .bytes-are)
+        ∙ ap bytesOf (write-alloc-at (stateIn l old) offset v _ e (rw (s .ctl-is, s .bw-is) refl))
+
+    pub bw-written : {w : ℕ} → offset ≡ 32 → w ≡ bwWord v
+        → lent (bytesOfAll 8 (wordsIn (record { setup = old .setup; «mon_ctl» = old .«mon_ctl»; «mon_ctr_val» = old .«mon_ctr_val»; «alloc_ctl» = old .«alloc_ctl»; «bw_alloc» = w; pool = old .pool })))
+        (l .active) (l .configured) (l .used) (l .counters) (l .events) ≡ bytesOf left
+    bw-written {w} e q =
+        let x = p .words in
+        same-bytes _ _ _ _ _ _ _ _ _ _ _ _ refl (x .active .bytes-are) (x .configured .bytes-are) (x .used .bytes-are) (x .counters .bytes-are) (x .events .bytes-are)
+        ∙ ap bytesOf (write-bw-at (stateIn l old) offset v w e q)
+
+    pub mon-written : {st : ℕ} {r : Registers} {N E : List ℕ} → offset ≡ 8 → Small (monStatus (su .na) (su .nm) lastEvent v) 5 st
+        → ((ns es : List ℕ) → Holds 8 (l .counters) ns → Holds 2 (l .events) es
+        → monitor.Stores (monAfter (su .na) st (monitorOf (record { ctl = old .«mon_ctl»; value = old .«mon_ctr_val» }) ns es) v) r N E)
+        → lent (bytesOfAll 8 (wordsIn (record { setup = old .setup; «mon_ctl» = r .ctl; «mon_ctr_val» = r .value; «alloc_ctl» = old .«alloc_ctl»; «bw_alloc» = old .«bw_alloc»; pool = old .pool })))
+        (l .active) (l .configured) (l .used) N E ≡ bytesOf left
+    mon-written e i q =
+        let x = p .words in
+        let s = q _ _ (x .counters) (x .events) in
+        same-bytes _ _ _ _ _ _ _ _ _ _ _ _ refl (x .active .bytes-are) (x .configured .bytes-are) (x .used .bytes-are) (s .counters-are) (s .events-are)
+        ∙ ap bytesOf (write-mon-at (stateIn l old) offset v _ _ e i (rw (s .ctl-is, s .value-is) refl))
+
+    pub none-written : (offset ≡ 24 → ⊥) → (offset ≡ 32 → ⊥) → (offset ≡ 8 → ⊥)
+        → lent (bytesOfAll 8 (wordsIn old)) (l .active) (l .configured) (l .used) (l .counters) (l .events) ≡ bytesOf left
+    none-written a b c =
+        let x = p .words in
+        same-bytes _ _ _ _ _ _ _ _ _ _ _ _ refl (x .active .bytes-are) (x .configured .bytes-are) (x .used .bytes-are) (x .counters .bytes-are) (x .events .bytes-are)
+        ∙ ap bytesOf (write-none (stateIn l old) offset v a b c)

@@ -1,3 +1,5 @@
 pub mod Lengths
+pub mod Parts
 pub mod Calls
+pub mod Checks
 pub mod Resets

@@ -2,18 +2,24 @@
 use mathlib.Core.Path.{_≡_}
 use mathlib.Core.Bool.{not}
 use mathlib.Core.List.{List, []}
-use Prim.Native.Nat.{ℕ, _*_}
+use Prim.Native.Nat.{ℕ, _+_, _*_, _≤_}
 use denote.Ref.{RefT}
 use denote.Triple.Both.{Both}
 use lib.Dec.{T}
 use lib.ListN.{length, replicate}
 use Rattle.words.specs.Words.{wordsOf, bytesOfAll, tableOf, Holds}
+use Rattle.tables.specs.Parts.{part, withPart}
+use Rattle.settings.specs.View.{allocation}
+use Rattle.settings.specs.Rows.{writeRow}
+use Rattle.settings.specs.declared.Written.{Written}
+use Rattle.grants.specs.Grants.{RowFits, RowGiven}
+use Rattle.grants.specs.declared.Given.{Given}
 use Rattle.replies.specs.Replies.{refusal}
 use Rattle.setup.specs.View.{setupOf}
 use Rattle.bandwidth_model.specs.Rules.{Setup, pairs, resetTable}
 use Rattle.bandwidth_model.specs.Calls.{Call}
 use Rattle.bandwidth_model.specs.Claim.{isReset}
-use Rattle.bandwidth_model.specs.Model.{State}
+use Rattle.bandwidth_model.specs.Model.{Allocation, State}
 use Rattle.bandwidth.specs.declared.Record.{Record}
 use Rattle.bandwidth.specs.View.{state}
 use Rattle.bandwidth.specs.Checked.{Passes}
@@ -84,3 +90,41 @@ pub record Passing (l : Lent) (h : Held) : Type 0 where
 abbrev pub Checked : Lent → Check → Type 0
 Checked l (Passed h) = Passing l h
 Checked l (Failed n) = (c : Call) → T (not (isReset c)) → refusal n (pointers c) l ≡ stepBytes l c
+
+-- ---- parts of the tables
+
+-- n words from the word from on lie in three tables
+pub record PartIn (active configured used : List ℕ) (from n : ℕ) : Type 0 where
+  pub active-in : (from + n) * 4 ≤ length active
+  pub configured-in : (from + n) * 4 ≤ length configured
+  pub used-in : (from + n) * 4 ≤ length used
+
+-- arrays for n words of each
+pub record Loads (n : ℕ) (a c u : List ℕ) : Type 0 where
+  pub a-long : length a ≡ n
+  pub c-long : length c ≡ n
+  pub u-long : length u ≡ n
+
+-- n words of two tables from the word from on, and a request on them that fits
+pub record GiveFits (su : Setup) (active used : List ℕ) (from n pool reserved at bytes : ℕ) : Type 0 where
+  pub active-in : (from + n) * 4 ≤ length active
+  pub used-in : (from + n) * 4 ≤ length used
+  pub fits : RowFits su reserved (part from n (tableOf 4 active)) (part from n (tableOf 4 used)) pool at bytes
+
+-- the used words that the request leaves
+pub record Gave (su : Setup) (active used : List ℕ) (from n pool reserved at bytes : ℕ) (new : List ℕ) (r : Given) : Type 0 where
+  pub left : List ℕ
+  pub given : RowGiven su reserved (part from n (tableOf 4 active)) (part from n (tableOf 4 used)) pool at bytes left (r .bytes) (r .pool)
+  pub bytes-are : used ≡ bytesOfAll 4 (tableOf 4 used) → new ≡ bytesOfAll 4 (withPart from n (tableOf 4 used) left)
+
+-- the configured words that a write to alloc_ctl leaves
+pub record Wrote (su : Setup) (configured : List ℕ) (from n reserved bw v : ℕ) (new : List ℕ) (r : Written) : Type 0 where
+  pub left : List ℕ
+  pub written : allocation (r .ctl) (r .bw) left ≡ writeRow su reserved bw (part from n (tableOf 4 configured)) v
+  pub bytes-are : configured ≡ bytesOfAll 4 (tableOf 4 configured) → new ≡ bytesOfAll 4 (withPart from n (tableOf 4 configured) left)
+
+-- the registers and the bytes of the table are those of a
+pub record Stores (a : Allocation) (r : Written) (configured : List ℕ) : Type 0 where
+  pub ctl-is : r .ctl ≡ a .ctl
+  pub bw-is : r .bw ≡ a .bw
+  pub bytes-are : configured ≡ bytesOfAll 4 (a .configured)

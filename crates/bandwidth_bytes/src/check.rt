@@ -1,7 +1,16 @@
 // Checks 1 to 3 on bytes.
+use crate::lent::record_refusal;
+use crate::record::load_record;
+use crate::sums::sum_bytes;
 use bandwidth::Record;
 use bandwidth::Totals;
+use monitor_bytes::bandwidth_counters_ok;
+use monitor_bytes::events_ok;
+use wellformed::tables_by;
 ghost use Rattle.bandwidth_bytes.specs.View.{before, Checked};
+
+// The highest EVT_ID that the bandwidth controller knows.
+const LAST_EVENT: u16 = 3;
 
 // The record that the bytes hold, and what the settings tables reserve.
 pub struct Held {
@@ -25,5 +34,33 @@ pub fn checked(
 ) -> Check
     ensures { λ r. ⌜ Checked (before «record» active configured used counters events) r ⌝ }
 {
-    Check::Failed(1)
+    let why = record_refusal(record, active, configured, used, counters, events);
+    if why != 0 {
+        return Check::Failed(why);
+    }
+    let given = load_record(record);
+    let setup = given.setup;
+    let sums = sum_bytes(
+        active,
+        configured,
+        used,
+        setup.nr as usize,
+        setup.na as u32,
+        setup.q as u32,
+    );
+    let k = bandwidth_counters_ok(counters, setup.w as u32);
+    let e = events_ok(events, setup.na as u16, LAST_EVENT);
+    let tables = tables_by(setup, sums, k, e);
+    if given.state_ok(tables) {
+        let totals = Totals {
+            active: tables.active,
+            configured: tables.configured,
+        };
+        Check::Passed(Held {
+            record: given,
+            totals,
+        })
+    } else {
+        Check::Failed(3)
+    }
 }

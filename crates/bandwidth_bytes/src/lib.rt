@@ -3,8 +3,11 @@ mod check;
 mod lent;
 pub mod read;
 mod record;
+pub mod request;
 pub mod reset;
+mod sums;
 pub mod window;
+pub mod write;
 
 // The refusal's number, 0 for none, and the value read or the bytes granted.
 pub struct Answer {

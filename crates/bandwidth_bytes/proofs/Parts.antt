@@ -1,0 +1,66 @@
+-- Words of a part of a table that were loaded into an array.
+use mathlib.Core.Path.{_≡_, ap, _∙_}
+use mathlib.Core.List.{List}
+use Prim.Native.Nat.{ℕ, _-_, _*_}
+use native.Mathlib.Omega.{arith}
+use lib.ListN.{length}
+use Rattle.tables.specs.Parts.{part, withPart, RowAt}
+use Rattle.words.specs.Words.{bytesOfAll, tableOf, Holds}
+use Rattle.bandwidth_model.specs.Rules.{Setup}
+use Rattle.bandwidth_model.specs.Model.{Allocation, writeAlloc}
+use Rattle.allocation.specs.Allocation.{rcidOf}
+use Rattle.settings.specs.View.{allocation, Ready}
+use Rattle.settings.specs.declared.Written.{Written}
+use Rattle.settings.proofs.Rows.{row-write}
+use Rattle.grants.specs.Grants.{RowFits, RowGiven}
+use Rattle.wellformed.specs.Bits.{SpanAt}
+use Rattle.wellformed.specs.Tables.{Rows, Summed}
+use Rattle.wellformed.specs.declared.settings.Sums.{Sums}
+use Rattle.bandwidth_bytes.specs.View.{PartIn, Wrote, Stores}
+
+-- as many words as the array holds
+pub loaded : (from : ℕ) (bytes : List ℕ) {n m : ℕ} {x : List ℕ} → x ≡ part from m (tableOf 4 bytes) → m ≡ n → x ≡ part from n (tableOf 4 bytes)
+loaded from bytes e h = e ∙ ap (λ (m : ℕ). part from m (tableOf 4 bytes)) h
+
+-- stored back
+pub put-back : (from : ℕ) (bytes left : List ℕ) {n : ℕ} {new : List ℕ} → new ≡ bytesOfAll 4 (withPart from (length left) (tableOf 4 bytes) left) → length left ≡ n
+    → new ≡ bytesOfAll 4 (withPart from n (tableOf 4 bytes) left)
+put-back from bytes left e h = e ∙ ap (λ (m : ℕ). bytesOfAll 4 (withPart from m (tableOf 4 bytes) left)) h
+
+-- ---- what is said of the words is said of the part
+
+module _ {na q n : ℕ} {a c u a′ c′ u′ : List ℕ} (x : a ≡ a′) (y : c ≡ c′) (z : u ≡ u′) where
+  pub rows-loaded : Rows na q n a′ c′ u′ → Rows na q n a c u
+  rows-loaded w = rw (x, y, z) w
+
+  pub summed-loaded : {s : Sums} → Summed na q a c u n s → Summed na q a′ c′ u′ n s
+  summed-loaded w = rw (← x, ← y, ← z) w
+
+module _ {su : Setup} {reserved pool at bytes : ℕ} {a u a′ u′ : List ℕ} (x : a ≡ a′) (y : u ≡ u′) where
+  pub fits-loaded : RowFits su reserved a′ u′ pool at bytes → RowFits su reserved a u pool at bytes
+  fits-loaded w = rw (x, y) w
+
+  pub given-loaded : {left : List ℕ} {sum gave : ℕ} → RowGiven su reserved a u pool at bytes left sum gave → RowGiven su reserved a′ u′ pool at bytes left sum gave
+  given-loaded w = rw (← x, ← y) w
+
+-- a span lies in the tables
+pub span-in : {na nr r next from to : ℕ} {active configured used : List ℕ} → SpanAt na nr r next from to → PartIn active configured used 0 (nr * na)
+    → PartIn active configured used from (to - from)
+span-in s p = record {
+  active-in = omega (arith, s .order, s .end, p .active-in);
+  configured-in = omega (arith, s .order, s .end, p .configured-in);
+  used-in = omega (arith, s .order, s .end, p .used-in);
+}
+
+-- ---- a write to alloc_ctl
+
+-- the row put back is the table that the model leaves
+pub alloc-stored : {su : Setup} {configured new : List ℕ} {from to reserved bw v : ℕ} {r : Written} → RowAt (su .nr) (su .na) (rcidOf v) from to
+    → Wrote su configured from (to - from) reserved bw v new r → (ws : List ℕ) → Holds 4 configured ws → Ready su ws reserved → Stores (writeAlloc su bw ws v) r new
+alloc-stored {bw = bw} {v = v} p w ws h ready =
+    let e = row-write ready bw v p (rw (← h .words-are) at (w .written)) in
+    record {
+      ctl-is = ap (λ (a : Allocation). a .ctl) e;
+      bw-is = ap (λ (a : Allocation). a .bw) e;
+      bytes-are = w .bytes-are (rw (← h .words-are) (h .bytes-are)) ∙ rw (← h .words-are) (ap (λ (a : Allocation). bytesOfAll 4 (a .configured)) e);
+    }

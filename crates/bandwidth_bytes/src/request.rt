@@ -1,0 +1,166 @@
+// Requests on bytes.
+use crate::Answer;
+use crate::check::Check;
+use crate::check::Held;
+use crate::check::checked;
+use access::known_at;
+use grants::Given;
+use grants::give;
+use monitor_bytes::count_bytes;
+use setup::Setup;
+use tables::row_at;
+use words::load_part32;
+use words::put64;
+use words::store_part32;
+ghost use mathlib.Core.Path.{_≡_};
+ghost use mathlib.Core.Bool.{false, _||_};
+ghost use mathlib.Core.List.{[], _∷_};
+ghost use Prim.Native.Nat.{_≤_};
+ghost use lib.Dec.{leb};
+ghost use lib.ListN.{length};
+ghost use Rattle.setup.specs.View.{setupOf};
+ghost use Rattle.replies.specs.Replies.{reply};
+ghost use Rattle.bandwidth_model.specs.Calls.{request};
+ghost use Rattle.bandwidth_bytes.specs.Bytes.{lent, stepBytes};
+ghost use Rattle.bandwidth_bytes.specs.View.{before, after, Passing, GiveFits, Gave};
+
+// A request by n words of its RCID from the word `from` on, with arrays for them.
+fn give_loaded(
+    setup: Setup,
+    active: &[u8],
+    used: &mut [u8],
+    from: usize,
+    row: &mut [u32],
+    spent: &mut [u32],
+    n: usize,
+    pool: u64,
+    reserved: u64,
+    at: u64,
+    bytes: u64,
+) -> Given
+    requires { ⌜ GiveFits (setupOf setup) (now active) (now used) from n pool reserved at bytes × ((length (now row) ≡ n) × (length (now spent) ≡ n)) ⌝ }
+    ensures { λ r. ⌜ Gave (setupOf setup) (now (active .entry)) (now (used .entry)) from n pool reserved at bytes (now (used .exit)) r ⌝ }
+{
+    load_part32(active, from, row);
+    load_part32(used, from, spent);
+    let given = give(setup, row, spent, pool, reserved, at, bytes);
+    store_part32(spent, used, from);
+    given
+}
+
+fn give_bytes(
+    setup: Setup,
+    active: &[u8],
+    used: &mut [u8],
+    from: usize,
+    n: usize,
+    pool: u64,
+    reserved: u64,
+    at: u64,
+    bytes: u64,
+) -> Given
+    requires { ⌜ GiveFits (setupOf setup) (now active) (now used) from n pool reserved at bytes × (n ≤ 8) ⌝ }
+    ensures { λ r. ⌜ Gave (setupOf setup) (now (active .entry)) (now (used .entry)) from n pool reserved at bytes (now (used .exit)) r ⌝ }
+{
+    let mut row = [0u32; 8];
+    let mut spent = [0u32; 8];
+    give_loaded(
+        setup,
+        active,
+        used,
+        from,
+        &mut row[..n],
+        &mut spent[..n],
+        n,
+        pool,
+        reserved,
+        at,
+        bytes,
+    )
+}
+
+// Grants a request bytes by the words of its RCID, and counts them.
+fn serve(
+    held: Held,
+    record: &mut [u8],
+    active: &[u8],
+    configured: &[u8],
+    used: &mut [u8],
+    counters: &mut [u8],
+    events: &[u8],
+    rcid: u64,
+    mcid: u64,
+    at: u64,
+    kind: u64,
+    bytes: u32,
+) -> u64
+    requires { ⌜ Passing (lent (now «record») (now active) (now configured) (now used) (now counters) (now events)) held
+        × ((leb (held .«record» .setup .nr) rcid || leb (held .«record» .setup .nm) mcid) ≡ false) ⌝ }
+    ensures { λ r. ⌜ reply 0 (r ∷ []) (after «record» active configured used counters events) ≡ stepBytes (before «record» active configured used counters events) (request rcid mcid at kind bytes) ⌝ }
+{
+    let given = held.record;
+    let totals = held.totals;
+    let setup = given.setup;
+    let at = known_at(setup.na, at);
+    let place = row_at(setup.nr, setup.na, rcid);
+    let gave = give_bytes(
+        setup,
+        active,
+        used,
+        place.from,
+        place.to - place.from,
+        given.pool,
+        totals.active,
+        at,
+        bytes as u64,
+    );
+    put64(record, 11, gave.pool);
+    let sum = gave.bytes;
+    count_bytes(setup.w, counters, events, mcid, at, kind, sum);
+    sum
+}
+
+pub fn request(
+    record: &mut [u8],
+    active: &[u8],
+    configured: &[u8],
+    used: &mut [u8],
+    counters: &mut [u8],
+    events: &[u8],
+    rcid: u64,
+    mcid: u64,
+    at: u64,
+    kind: u64,
+    bytes: u32,
+) -> Answer
+    ensures { λ r. ⌜ reply (r .number) (r .value ∷ []) (after «record» active configured used counters events) ≡ stepBytes (before «record» active configured used counters events) (request rcid mcid at kind bytes) ⌝ }
+{
+    match checked(record, active, configured, used, counters, events) {
+        Check::Failed(number) => Answer { number, value: 0 },
+        Check::Passed(held) => {
+            let given = held.record;
+            let setup = given.setup;
+            if (setup.nr <= rcid) | (setup.nm <= mcid) {
+                return Answer {
+                    number: 7,
+                    value: 0,
+                };
+            }
+            let value = serve(
+                held,
+                record,
+                active,
+                configured,
+                used,
+                counters,
+                events,
+                rcid,
+                mcid,
+                at,
+                kind,
+                bytes,
+            );
+            Answer { number: 0, value }
+        }
+    }
+}
