@@ -3,7 +3,7 @@ use mathlib.Core.Path.{_≡_, sym, _∙_}
 use mathlib.Core.Bool.{cond}
 use mathlib.Core.List.{List}
 use Prim.Native.Nat.{ℕ, _+_, _*_, _/_, _%_, _^_, _≤_, _<_}
-use native.Mathlib.Nat.{zero-mul, one-mul, suc-mul, mul-le-mul, mul-le-mul-left, mul-le-mul-right, mod-eq-of-lt, le-trans, le-of-eq}
+use native.Mathlib.Nat.{zero-mul, one-mul, suc-mul, mul-le-mul, mul-le-mul-left, mod-eq-of-lt, le-trans}
 use native.Mathlib.Numerals.{add-one}
 use native.Mathlib.Omega.{arith}
 use borrow.Author.Count.{below-more}
@@ -15,6 +15,7 @@ use lib.Seq.{ext-getD}
 use Rattle.tables.specs.Below.{sumBelow, unionBelow}
 use Rattle.tables.proofs.Tests.{cases, cond-yes}
 use Rattle.tables.proofs.Laws.{sum-le, sum-zero}
+use Rattle.tables.proofs.Parts.{row-inside}
 use Rattle.tables.proofs.Union.{zero-union}
 use Rattle.wellformed.specs.Bits.{formAt, blocksAt, markAt, sharingAt, overAt, AtMost}
 use Rattle.wellformed.specs.Tables.{TableSummed}
@@ -40,9 +41,6 @@ bytes-le {b} {q} h k = mul-le-mul {n₁ = b} {m₁ = q} {n₂ = 65535} {m₂ = 6
 -- the row after r
 pub row-next : (r na : ℕ) → r * na + na ≡ (r + 1) * na
 row-next r na = rw (add-one, suc-mul)
-
-pub row-fits : (r nr na : ℕ) → r < nr → r * na + na ≤ nr * na
-row-fits r nr na h = le-trans (le-of-eq (row-next r na)) (mul-le-mul-right {m = r + 1} {n = nr} na (omega arith))
 
 -- the blocks of n words
 pub blocks-low : (t : List ℕ) (n : ℕ) → sumBelow n (blocksAt t) ≤ 65535 * n
@@ -73,7 +71,7 @@ pub names-none : (na n : ℕ) (t : List ℕ) (any : ℕ) → any < 268435456 →
 unfolding sharingAt markAt
 names-none na n t any s h =
     zero-union n (sharingAt na t)
-    (λ k b. let low : (a : ℕ) → a < na → getD t (k * na + a) 0 < 268435456 = λ a l. omega (arith, h .each (k * na + a) (omega (arith, row-fits k n na b))) in
+    (λ k b. let low : (a : ℕ) → a < na → getD t (k * na + a) 0 < 268435456 = λ a l. omega (arith, h .each (k * na + a) (omega (arith, row-inside n na k b))) in
     held-row na (λ a. getD t (k * na + a) 0) (λ a l. omega (arith, low a l)) (λ a l p. absurd (omega (arith, low a l))))
 
 -- every word is 0

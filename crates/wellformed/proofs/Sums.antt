@@ -9,13 +9,13 @@ use lib.ListN.{getD}
 use Rattle.tables.specs.Below.{sumBelow, unionBelow}
 use Rattle.tables.specs.Parts.{part}
 use Rattle.tables.proofs.Laws.{sum-add, sum-same}
-use Rattle.tables.proofs.Parts.{part-at, part-length}
+use Rattle.tables.proofs.Parts.{part-at, part-length, row-inside}
 use Rattle.tables.proofs.Union.{union-same, union-add}
 use Rattle.wellformed.specs.Bits.{formBits, formAt, blocksAt, mark, markAt, lacking, sharingAt, overAt, SpanAt}
 use Rattle.wellformed.specs.Tables.{Rows, TableSummed, Summed, TableAdded, Added, SumsFit}
 use Rattle.wellformed.specs.declared.settings.TableSums.{TableSums}
 use Rattle.wellformed.specs.declared.settings.Sums.{Sums}
-use Rattle.wellformed.proofs.Passes.{row-fits, blocks-low}
+use Rattle.wellformed.proofs.Passes.{blocks-low}
 
 -- ---- the first n rows, and the m rows after them
 
@@ -34,7 +34,7 @@ module _ (na n m : ℕ) (t : List ℕ) where
   unfolding sharingAt markAt
   sharing-is i h =
       ap lacking (union-same na (markAt rest (i * na)) (markAt t ((n + i) * na))
-      (λ a l. ap (mark a) (word-is (i * na + a) (omega (arith, row-fits i m na h)) ∙ ap (λ (k : ℕ). getD t k 0) (omega (arith, add-mul n i na)))))
+      (λ a l. ap (mark a) (word-is (i * na + a) (omega (arith, row-inside m na i h)) ∙ ap (λ (k : ℕ). getD t k 0) (omega (arith, add-mul n i na)))))
 
   table-more : {x y z : TableSums} → TableSummed na t n x → TableSummed na rest m y → TableAdded x y z → TableSummed na t (n + m) z
   unfolding formAt blocksAt

@@ -80,7 +80,7 @@ fn sum_table(t: &[u32], rows: usize, na: u32) -> TableSums
 }
 
 // The same of the configured table, by the sums of the table in force where both have the same words.
-fn sum_beside(
+fn sum_configured(
     active: &[u32],
     configured: &[u32],
     rows: usize,
@@ -116,7 +116,7 @@ pub fn sum_rows(
     ensures { λ r. ⌜ Summed na q (now (active .entry)) (now (configured .entry)) (now (used .entry)) rows r ⌝ }
 {
     let a = sum_table(active, rows, na);
-    let c = sum_beside(active, configured, rows, na, a);
+    let c = sum_configured(active, configured, rows, na, a);
     let over = over_bits(active, used, q);
     Sums {
         active: a,

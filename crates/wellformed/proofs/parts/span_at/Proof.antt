@@ -16,4 +16,4 @@ pub span-at-spec : {M : Type 1} → statement M
 span-at-spec =
     tie.close
     (tie.spec (λ c κs. search needs) (λ c κs. search needs)
-    (λ c. record { fits = omega (arith, span c .order, span c .few) }) (λ c. record { fits = omega (arith, span c .few) }) span)
+    (λ c. record { fits = omega (arith, span c .order, span c .few) }) (λ c. record { fits = omega (arith, span c .order, span c .few) }) span)

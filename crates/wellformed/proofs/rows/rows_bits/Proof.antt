@@ -5,9 +5,10 @@ use native.Mathlib.Nat.{zero-mul}
 use native.Mathlib.Omega.{arith}
 use borrow.Author.Needs.{needs}
 use Rattle.tables.specs.Below.{unionBelow}
+use Rattle.tables.proofs.Parts.{row-inside}
 use Rattle.tables.proofs.Union.{union-none, union-next}
 use Rattle.wellformed.specs.Bits.{sharingAt}
-use Rattle.wellformed.proofs.Passes.{row-next, row-fits}
+use Rattle.wellformed.proofs.Passes.{row-next}
 use Rattle.wellformed.proofs.rows.rows_bits.Statement.{statement}
 use Rattle.wellformed.proofs.rows.rows_bits.Tie as tie
 
@@ -20,12 +21,12 @@ abbrev μ-loop : tie.MeasureT-loop
 row-bits-requires : tie.Need-row-bits-requires Inv-loop μ-loop
 row-bits-requires c κs =
     let s = c .before .before .before in
-    (search needs, omega (arith, row-fits (c .before .loop .r) (s .args .rows) (s .args .na) (omega arith), s .pre .long))
+    (search needs, omega (arith, row-inside (s .args .rows) (s .args .na) (c .before .loop .r) (omega arith), s .pre .long))
 
 add-base : tie.Need-add-base Inv-loop μ-loop
 add-base c =
     let s = c .before .before .before .before in
-    record { fits = omega (arith, row-fits (c .before .before .loop .r) (s .args .rows) (s .args .na) (omega arith), s .pre .few) }
+    record { fits = omega (arith, row-inside (s .args .rows) (s .args .na) (c .before .before .loop .r) (omega arith), s .pre .few) }
 
 loop-again : tie.Need-loop-again Inv-loop μ-loop
 unfolding sharingAt

@@ -7,7 +7,7 @@ returns : tie.Need-returns
 returns c =
     record {
       active = c .before .before .sum-table .ensures;
-      configured = c .before .sum-beside .ensures;
+      configured = c .before .sum-configured .ensures;
       over = rw (c .before .before .before .before .before .before .pre .used-long) (c .over-bits .ensures);
     }
 
