@@ -46,11 +46,12 @@ fn holder_of(row: &[u32], at: u64) -> Holder
     ensures { λ r. ⌜ holderFrom r ≡ holderIn (now (row .entry)) at ⌝ }
 {
     let word = word32(row, at as usize) as u64;
+    let other = shared_at(word);
     if is_holder(word) {
         return Holder::Held(at);
     }
     if is_sharer(word) {
-        return Holder::Held(shared_at(word));
+        return Holder::Held(other);
     }
     Holder::Nobody
 }

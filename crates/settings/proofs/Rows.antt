@@ -1,5 +1,5 @@
 -- What is judged and done by the configured words of one RCID is what the model does on the whole table.
-use mathlib.Core.Path.{_≡_, refl, sym, ap, _∙_}
+use mathlib.Core.Path.{_≡_, refl, ap, _∙_}
 use mathlib.Core.Bool.{Bool, true, false, not, cond, _&&_, _||_}
 use mathlib.Core.List.{List, [], _∷_}
 use Prim.Native.Nat.{ℕ, zero, suc, _+_, _-_, _≤_, _<_}
@@ -14,8 +14,8 @@ use Rattle.tables.proofs.Laws.{sum-le}
 use Rattle.tables.proofs.Parts.{part-at, part-same, part-set}
 use Rattle.access.specs.Checks.{_gives_, first}
 use Rattle.access.specs.Pairs.{pair, wordAt}
-use Rattle.allocation.specs.Allocation.{configLimit, readLimit, opOf, rcidOf, atOf, allocWord, validOp, status, done, tableAfter, operandAfter}
-use Rattle.allocation.proofs.Operations.{Pair, done-pair}
+use Rattle.allocation.specs.Allocation.{configLimit, readLimit, opOf, rcidOf, atOf, validOp, status, done, tableAfter, operandAfter}
+use Rattle.allocation.proofs.Operations.{done-pair}
 use Rattle.bandwidth_model.specs.Rules.{Setup, pairs, sharedAtOf, isHolder, stored, reserved, total, badHolder, shares, badSharer, badOperand, badLimit, limitOf, settled, configuredAfter, bwAfter}
 use Rattle.bandwidth_model.specs.Model.{Allocation, writeAlloc}
 use Rattle.bandwidth_model.proofs.Words.{reserved-0, reserved-le}

@@ -2,8 +2,8 @@
 use mathlib.Core.Path.{refl}
 use native.Mathlib.Omega.{arith}
 use borrow.Author.Needs.{needs}
-use Rattle.bandwidth_model.specs.Model.{fromReservation}
-use Rattle.grants.specs.Grants.{poolIn, grantIn}
+use Rattle.grants.specs.Grants.{grantIn}
+use Rattle.grants.proofs.Steps.{held-steps}
 use Rattle.grants.proofs.grant_of.Statement.{statement}
 use Rattle.grants.proofs.grant_of.Tie as tie
 
@@ -12,8 +12,10 @@ unfolding grantIn
 returns c = rw (c .enum-told .given .1) (record { is = refl; sum = omega arith })
 
 returns-2 : tie.Need-returns-2
-unfolding grantIn poolIn fromReservation
-returns-2 c = rw (c .before .before .before .before .before .holder .given .1) (record { is = cc; sum = omega arith })
+returns-2 c =
+    let w = c .before .before .before in
+    rw (w .before .before .holder .given .1)
+    (held-steps _ _ _ _ _ (w .word32 .ensures) (c .before .before .word322 .ensures) (c .before .from-reservation .ensures) (c .from-pool .ensures))
 
 pub grant-of-spec : {M : Type 1} → statement M
 grant-of-spec =

@@ -1,4 +1,5 @@
 -- `bandwidth::Record::serve` meets its contract.
+use native.Mathlib.Omega.{arith}
 use borrow.Author.Needs.{needs}
 use Rattle.setup.specs.View.{setupOf}
 use Rattle.settings.proofs.Rows.{row-end}
@@ -9,12 +10,12 @@ use Rattle.bandwidth.proofs.Record.serve.Tie as tie
 part-give-end : tie.Need-part-give-end
 part-give-end c =
     let a = c .before .before .before .before .before .before .before .before in
-    row-end (setupOf (a .args .self .setup)) (a .args .active .now) (a .pre .0 .sized .active-long) (c .row-at .ensures)
+    omega (arith, row-end (setupOf (a .args .self .setup)) (a .args .active .now) (a .pre .0 .sized .active-long) (c .row-at .ensures))
 
 part-give-end-2 : tie.Need-part-give-end-2
 part-give-end-2 c =
     let a = c .before .before .before .before .before .before .before .before .before in
-    row-end (setupOf (a .args .self .setup)) (a .args .used .now) (a .pre .0 .sized .used-long) (c .before .row-at .ensures)
+    omega (arith, row-end (setupOf (a .args .self .setup)) (a .args .used .now) (a .pre .0 .sized .used-long) (c .before .row-at .ensures))
 
 give-requires : tie.Need-give-requires
 give-requires c κs =
