@@ -130,7 +130,7 @@ impl Record {
             Verdict::Passed => {
                 let mask = word64(masks, self.setup.pair_at(rcid, at));
                 let i = mcid as usize;
-                let left = self.fill_words(
+                let filled = self.fill_words(
                     mask,
                     word64(counters, i),
                     word16(events, i),
@@ -139,8 +139,8 @@ impl Record {
                     at,
                     block,
                 );
-                put64(counters, i, left.counter);
-                let filling = left.filling;
+                put64(counters, i, filled.counter);
+                let filling = filled.filling;
                 Filled {
                     record: self,
                     filling,
@@ -168,7 +168,7 @@ impl Record {
             },
             Verdict::Passed => {
                 let i = mcid as usize;
-                let left = self.evict_words(
+                let evicted = self.evict_words(
                     word64(counters, i),
                     word16(events, i),
                     rcid,
@@ -176,8 +176,8 @@ impl Record {
                     at,
                     block,
                 );
-                put64(counters, i, left.counter);
-                let ack = left.ack;
+                put64(counters, i, evicted.counter);
+                let ack = evicted.ack;
                 Acked { record: self, ack }
             }
         }
