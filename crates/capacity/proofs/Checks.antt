@@ -12,7 +12,7 @@ use Rattle.fields.specs.Layout.{get, kept}
 use Rattle.fields.specs.Registers as reg
 use Rattle.fields.proofs.Registers.{capacityCounter-kept}
 use Rattle.tables.specs.Below.{allBelow}
-use Rattle.tables.proofs.Tests.{and-l, and-r, and-in, not-not, nor-l, nor-r}
+use Rattle.tables.proofs.Tests.{and-l, and-r, and-in, not-not, nor-l, nor-r, eqb-in, is-true}
 use Rattle.tables.proofs.Laws.{every-below}
 use Rattle.access.specs.Checks as access
 use Rattle.access.specs.Checks.{_gives_, first}
@@ -32,6 +32,10 @@ use Rattle.capacity.specs.Checked.{Passes, Named, TablesJudged}
 pub sized : (su : Setup) (s : State) → T (lengthsOk su s) → Sized su (s .alloc .masks) (s .monitor .counters) (s .monitor .events)
 unfolding lengthsOk
 sized su s t = search (eqb→eq, and-l, and-r) depth 9
+
+pub setup-passes : (su : Setup) (s : State) → T (setupOk su) → Sized su (s .alloc .masks) (s .monitor .counters) (s .monitor .events) → 0 ≡ first (setupChecks su s) 0
+unfolding access.setupChecks lengthsOk
+setup-passes su s t z = let l : T (lengthsOk su s) = search (eqb-in, and-in) depth 9 in rw (is-true (setupOk su) t, is-true (lengthsOk su s) l) refl
 
 module _ (su : Setup) (s : State) (e : 0 ≡ first (setupChecks su s) 0) where
   pub setup-passed : T (setupOk su)
