@@ -2,7 +2,7 @@
 use mathlib.Core.Path.{_≡_, refl, sym, _∙_}
 use mathlib.Core.Bool.{true, false, not, cond, _||_}
 use mathlib.Core.List.{List}
-use Prim.Native.Nat.{ℕ, _+_, _<_}
+use Prim.Native.Nat.{ℕ, _-_, _<_}
 use lib.Dec.{T, leb, lit<, nleb→lt}
 use lib.ListN.{getD, set, replicate}
 use borrow.Author.Tests.{ne-eqb}
@@ -15,19 +15,28 @@ use Rattle.access.specs.declared.Refusal.{Refusal}
 use Rattle.access.specs.declared.Refusal.the-variants.{Identifier}
 use Rattle.access.specs.Access.{registersEnd, readChecks, writeChecks}
 use Rattle.access.specs.Pairs.{knownAt}
+use Rattle.access.proofs.Pairs.{known-lt}
+use Rattle.allocation.specs.Allocation.{rcidOf}
 use Rattle.tables.specs.Below.{Small}
+use Rattle.tables.specs.Parts.{part, withPart, RowAt}
 use Rattle.tables.proofs.Tests.{nor-l, of-true, of-false}
 use Rattle.monitor.specs.Monitor.{Monitor, cleared, monStatus, monAfter, writeMon, counted}
 use Rattle.monitor.specs.Bytes.{lastEvent, countsRequest, added}
-use Rattle.bandwidth_model.specs.Rules.{Setup, setupOk, pairs, Holder, holderOf, bwWord}
+use Rattle.bandwidth_model.specs.Rules.{Setup, setupOk, pairs, holderOf, bwWord}
 use Rattle.bandwidth_model.specs.Calls.{Call, reset, read, write, request, endWindow, refused, done, value, granted}
 use Rattle.bandwidth_model.specs.Claim.{isReset}
-use Rattle.bandwidth_model.specs.Model.{State, Allocation, Usage, Outcome, lengthsOk, argumentChecks, stateChecks, readAt, opened, afterReset, afterWindow, Grant, grantOf, grantSum, spend, serve, serveFrom, requested, writeAlloc, writeBw, writeAt, perform, step}
+use Rattle.bandwidth_model.specs.Model.{State, Allocation, Usage, Outcome, lengthsOk, argumentChecks, stateChecks, readAt, opened, afterReset, afterWindow, grantOf, grantSum, spend, serve, serveFrom, requested, writeAlloc, writeBw, writeAt, perform, step}
 use Rattle.bandwidth_model.proofs.Steps.{checking}
+use Rattle.settings.specs.View.{allocation, Ready}
+use Rattle.settings.specs.Rows.{writeRow, Reserves}
+use Rattle.settings.proofs.Rows.{row-reserves, row-write}
+use Rattle.grants.specs.View.{usage}
+use Rattle.grants.specs.Grants.{RowFits, RowGiven}
+use Rattle.grants.proofs.Rows.{row-fits, row-sum, row-spent}
 use Rattle.bandwidth.specs.declared.check.Totals.{Totals}
 use Rattle.bandwidth.specs.View.{outcome}
 use Rattle.bandwidth.specs.Checked.{Passes, Fresh}
-use Rattle.bandwidth.proofs.Checks.{passing}
+use Rattle.bandwidth.proofs.Checks.{passing, active-facts, usage-formed}
 
 -- ---- refused or performed
 
@@ -99,24 +108,63 @@ module _ (s : State) (su : Setup) where
 
 -- ---- requests
 
--- a request: its AT, its holder, the grant, what is used then, and the counters
-pub serve-steps : (s : State) (rcid mcid at kind bytes a : ℕ) (h : Holder) (g : Grant) (u : Usage) (counters : List ℕ)
-    → a ≡ knownAt (s .setup .na) at → h ≡ holderOf (s .setup) (s .usage .active) rcid a → g ≡ grantOf (s .setup) (s .usage) h bytes → u ≡ spend (s .usage) h g
+-- a request: its AT, the bytes granted, what is used then, and the counters
+serve-steps : (s : State) (rcid mcid at kind bytes a sum : ℕ) (u : Usage) (counters : List ℕ) → a ≡ knownAt (s .setup .na) at
+    → (let h = holderOf (s .setup) (s .usage .active) rcid a in
+    let g = grantOf (s .setup) (s .usage) h bytes in
+    sum ≡ grantSum g → u ≡ spend (s .usage) h g
     → counters ≡ cond (countsRequest (getD (s .monitor .events) mcid 0) a kind)
-    (set (s .monitor .counters) mcid (added (s .setup .w) (g .reservation + g .pool) (getD (s .monitor .counters) mcid 0))) (s .monitor .counters)
-    → record {
-      answer = granted (g .reservation + g .pool);
-      state = record {
+    (set (s .monitor .counters) mcid (added (s .setup .w) sum (getD (s .monitor .counters) mcid 0))) (s .monitor .counters)
+    → outcome (granted sum) (record {
+      setup = s .setup;
+      alloc = s .alloc;
+      usage = u;
+      monitor = record { ctl = s .monitor .ctl; value = s .monitor .value; counters = counters; events = s .monitor .events };
+    }) ≡ requested s rcid mcid at kind bytes)
+unfolding requested serveFrom serve counted
+serve-steps s rcid mcid at kind bytes a sum u counters e₁ e₂ e₃ e₄ = rw (e₄, e₃, e₂, e₁) refl
+
+-- a request by the words of its RCID
+module _ {s : State} {t : Totals} (p : Passes s t) {rcid a from to : ℕ} (at bytes : ℕ) (hr : rcid < s .setup .nr) (e : a ≡ knownAt (s .setup .na) at)
+    (w : RowAt (s .setup .nr) (s .setup .na) rcid from to) where
+  low : a < s .setup .na
+  low = rw e (known-lt (s .setup .na) at (p .ranges .na-low))
+
+  abbrev Given : List ℕ → ℕ → ℕ → Type 0
+  Given left sum gave =
+      RowGiven (s .setup) (t .active) (part from (to - from) (s .usage .active)) (part from (to - from) (s .usage .used)) (s .usage .pool) a bytes left sum gave
+
+  pub request-fits : RowFits (s .setup) (t .active) (part from (to - from) (s .usage .active)) (part from (to - from) (s .usage .used)) (s .usage .pool) a bytes
+  request-fits = rw (p .totals .active) (row-fits (s .setup) (s .usage) (p .ranges) (active-facts p) (usage-formed p) w hr a bytes low)
+
+  pub serve-row : (mcid kind : ℕ) {left counters : List ℕ} {sum gave : ℕ} → Given left sum gave
+      → counters ≡ cond (countsRequest (getD (s .monitor .events) mcid 0) a kind)
+      (set (s .monitor .counters) mcid (added (s .setup .w) sum (getD (s .monitor .counters) mcid 0))) (s .monitor .counters)
+      → outcome (granted sum) (record {
         setup = s .setup;
         alloc = s .alloc;
-        usage = u;
+        usage = usage (s .usage .active) (withPart from (to - from) (s .usage .used) left) gave;
         monitor = record { ctl = s .monitor .ctl; value = s .monitor .value; counters = counters; events = s .monitor .events };
-      };
-    } ≡ requested s rcid mcid at kind bytes
-unfolding requested serveFrom serve grantSum counted
-serve-steps s rcid mcid at kind bytes a h g u counters e₁ e₂ e₃ e₄ e₅ = rw (e₅, e₄, e₃, e₂, e₁) refl
+      }) ≡ requested s rcid mcid at kind bytes
+  serve-row mcid kind {counters = counters} {sum = sum} g c =
+      let h = rw (p .totals .active) at g in
+      serve-steps s rcid mcid at kind bytes a sum _ counters e (row-sum (s .setup) (s .usage) (p .ranges) (active-facts p) (usage-formed p) w hr a bytes low h)
+      (row-spent (s .setup) (s .usage) (p .ranges) (active-facts p) (usage-formed p) w hr a bytes low h) c
 
 -- ---- writes
+
+-- a write to alloc_ctl by the words of the RCID that it names
+module _ {s : State} {t : Totals} (p : Passes s t) where
+  ready : Ready (s .setup) (s .alloc .configured) (t .configured)
+  ready = record { ranges = p .ranges; long = p .sized .configured-long; sum = p .totals .configured }
+
+  pub alloc-reserves : Reserves (s .setup) (t .configured)
+  alloc-reserves = row-reserves ready
+
+  pub alloc-row : (v : ℕ) {from to ctl bw : ℕ} {left : List ℕ} → RowAt (s .setup .nr) (s .setup .na) (rcidOf v) from to
+      → allocation ctl bw left ≡ writeRow (s .setup) (t .configured) (s .alloc .bw) (part from (to - from) (s .alloc .configured)) v
+      → allocation ctl bw (withPart from (to - from) (s .alloc .configured) left) ≡ writeAlloc (s .setup) (s .alloc .bw) (s .alloc .configured) v
+  alloc-row v w e = row-write ready (s .alloc .bw) v w e
 
 module _ (s : State) (offset v : ℕ) where
   pub write-alloc-at : (a : Allocation) → offset ≡ 24 → a ≡ writeAlloc (s .setup) (s .alloc .bw) (s .alloc .configured) v

@@ -19,11 +19,12 @@ use Rattle.bandwidth_model.specs.Model.{State, tableOk, usageOk, registersOk, l
 use Rattle.bandwidth_model.proofs.Setup.{setup-ok}
 use Rattle.bandwidth_model.proofs.Steps.{Passing}
 use Rattle.bandwidth_model.proofs.Settings.{TableFacts, table-facts}
-use Rattle.wellformed.specs.Tables.{tablesOk}
+use Rattle.wellformed.specs.Tables.{tablesOk, TablesChecked}
+use Rattle.wellformed.specs.declared.TablesOk.{TablesOk}
 use Rattle.bandwidth.specs.declared.check.Totals.{Totals}
 use Rattle.bandwidth.specs.declared.check.Check.{Check}
 use Rattle.bandwidth.specs.declared.check.Check.the-variants.{Passed, Failed}
-use Rattle.bandwidth.specs.Checked.{Passes, Checked}
+use Rattle.bandwidth.specs.Checked.{Totalled, Passes, Checked}
 use Rattle.access.specs.declared.Refusal.{Refusal}
 use Rattle.access.specs.Refusals.{numberOf}
 
@@ -94,6 +95,15 @@ module _ (s : State) where
       let whole : ok ≡ (ta && tc && us && ks && es) = e in
       by-parts ok (leb (u .pool) (left * su .q)) (leb (u .pool) ((su .nbwblks - total (u .active)) * su .q)) ta tc us ks es vk (registersOk su (s .alloc))
       (eqb (m .ctl) (monWord (su .na) (m .ctl) 0 (statusOf (m .ctl)))) regs ctl vt whole same r c
+
+-- where check 3 passes, what is found of the tables is the totals
+pub totals-by : (s : State) {r : TablesOk}
+    → TablesChecked (s .setup) (s .usage .active) (s .alloc .configured) (s .usage .used) (s .monitor .counters) (s .monitor .events) r
+    → T (wellFormed s) → Totalled s (record { active = r .active; configured = r .configured })
+unfolding tablesOk wellFormed usageOk monitorOk
+totals-by s t w =
+    let ok = subst T (sym (t .ok)) (search (and-l, and-r, and-in) depth 12) in
+    record { active = t .active ok; configured = t .configured ok }
 
 -- ---- what a check found
 

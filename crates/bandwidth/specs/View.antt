@@ -4,6 +4,8 @@ use Prim.Native.Nat.{ℕ}
 use denote.Ref.{RefT}
 use denote.Triple.Both.{Both}
 use Rattle.access.specs.Refusals.{numberOf}
+use lib.ListN.{set, replicate}
+use Rattle.bandwidth_model.specs.Rules.{Setup, holderWord, sharerWord, resetWeight}
 use Rattle.bandwidth_model.specs.Calls.{Answer, refused, done, value, granted}
 use Rattle.bandwidth_model.specs.Model.{State, Outcome}
 use Rattle.setup.specs.View.{setupOf}
@@ -49,3 +51,7 @@ readingOf (reading.Refused r) = refused (numberOf r)
 abbrev pub grantingOf : Granting → Answer
 grantingOf (granting.Bytes n) = granted n
 grantingOf (granting.Refused r) = refused (numberOf r)
+
+-- the n words of RCID 0 after a reset
+unfoldable pub resetRow : Setup → ℕ → List ℕ
+resetRow su n = set (replicate n (sharerWord 0)) 0 (holderWord (su .mrbwb) resetWeight)

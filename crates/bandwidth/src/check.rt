@@ -5,24 +5,22 @@ use monitor::control_ok;
 use settings::registers_ok;
 use setup::Setup;
 use tables::less;
+use wellformed::TablesOk;
 use wellformed::tables_ok;
 ghost use mathlib.Core.Path.{_≡_};
-ghost use Rattle.bandwidth_model.specs.Facts.{Ranges, Sized};
-ghost use Rattle.bandwidth_model.specs.Model.{lengthsOk};
+ghost use mathlib.Core.List.{List};
+ghost use Prim.Native.Nat.{ℕ};
+ghost use Rattle.bandwidth_model.specs.Facts.{Ranges};
+ghost use Rattle.bandwidth_model.specs.Model.{lengthsOk, wellFormed};
 ghost use Rattle.setup.specs.View.{setupOf};
-ghost use Rattle.bandwidth.specs.View.{before};
-ghost use Rattle.bandwidth.specs.Checked.{Judged, Checked};
+ghost use Rattle.wellformed.specs.Tables.{TablesChecked};
+ghost use Rattle.bandwidth.specs.View.{state, before};
+ghost use Rattle.bandwidth.specs.Checked.{Checked};
 
 // The blocks that the holders in force and the holders configured reserve.
 pub struct Totals {
     pub active: u64,
     pub configured: u64,
-}
-
-// Check 3, and the totals that it comes by.
-struct Judgement {
-    ok: bool,
-    totals: Totals,
 }
 
 // What checks 1 to 3 find.
@@ -54,30 +52,16 @@ impl Record {
             & (events.len() == nm)
     }
 
-    // Check 3.
-    fn well_formed(
-        self,
-        active: &[u32],
-        configured: &[u32],
-        used: &[u32],
-        counters: &[u64],
-        events: &[u16],
-    ) -> Judgement
-        requires { ⌜ Ranges (setupOf (self .setup)) × Sized (setupOf (self .setup)) (now active) (now configured) (now used) (now counters) (now events) ⌝ }
-        ensures { λ r. ⌜ Judged (before self active configured used counters events) (r .ok) (r .totals) ⌝ }
+    // Check 3, by what is found of the tables.
+    pub fn state_ok(self, tables: TablesOk) -> bool
+        requires { ⌜ Ranges (setupOf (self .setup)) ⌝ }
+        ensures { λ ok. ⌜ ((active configured used counters events : List ℕ) → TablesChecked (setupOf (self .setup)) active configured used counters events tables → ok ≡ wellFormed (state self active configured used counters events)) ⌝ }
     {
         let setup = self.setup;
-        let seen = tables_ok(setup, active, configured, used, counters, events);
-        let left = less(setup.nbwblks, seen.active) * setup.q;
+        let left = less(setup.nbwblks, tables.active) * setup.q;
         let registers = registers_ok(setup, self.alloc_ctl, self.bw_alloc)
             & control_ok(setup.na, self.mon_ctl);
-        Judgement {
-            ok: seen.ok & (self.pool <= left) & registers,
-            totals: Totals {
-                active: seen.active,
-                configured: seen.configured,
-            },
-        }
+        tables.ok & (self.pool <= left) & registers
     }
 
     // The first of checks 1 to 3 that fails, or the totals.
@@ -94,11 +78,12 @@ impl Record {
         let setup = self.setup;
         if setup.in_range() {
             if self.lengths_ok(setup, active, configured, used, counters, events) {
-                let judged = self.well_formed(active, configured, used, counters, events);
-                let ok = judged.ok;
-                let totals = judged.totals;
-                if ok {
-                    Check::Passed(totals)
+                let tables = tables_ok(setup, active, configured, used, counters, events);
+                if self.state_ok(tables) {
+                    Check::Passed(Totals {
+                        active: tables.active,
+                        configured: tables.configured,
+                    })
                 } else {
                     Check::Failed(Refusal::State)
                 }

@@ -17,12 +17,15 @@ use monitor::write_mon;
 use settings::bw_word;
 use settings::write_alloc;
 ghost use mathlib.Core.Path.{_≡_};
+ghost use mathlib.Core.List.{List};
+ghost use Prim.Native.Nat.{ℕ};
 ghost use Rattle.bandwidth_model.specs.Facts.{Ranges};
 ghost use Rattle.bandwidth_model.specs.Calls.{read, write};
 ghost use Rattle.bandwidth_model.specs.Model.{capabilities, register, writeAt, step};
 ghost use Rattle.setup.specs.View.{setupOf};
 ghost use Rattle.bandwidth.specs.View.{before, after, state, outcome, ackOf, readingOf};
 ghost use Rattle.bandwidth.specs.Checked.{Passes};
+ghost use Rattle.bandwidth.specs.declared.check.Totals as totals;
 
 impl Record {
     // What capabilities reads.
@@ -38,17 +41,9 @@ impl Record {
     }
 
     // The register that an offset lies in.
-    fn register(
-        self,
-        active: &[u32],
-        configured: &[u32],
-        used: &[u32],
-        counters: &[u64],
-        events: &[u16],
-        n: u64,
-    ) -> u64
+    fn register(self, n: u64) -> u64
         requires { ⌜ Ranges (setupOf (self .setup)) ⌝ }
-        ensures { λ r. ⌜ r ≡ register (before self active configured used counters events) n ⌝ }
+        ensures { λ r. ⌜ ((active configured used counters events : List ℕ) → r ≡ register (state self active configured used counters events) n) ⌝ }
     {
         match n {
             0 => self.capabilities(),
@@ -56,6 +51,21 @@ impl Record {
             2 => self.mon_ctr_val,
             3 => self.alloc_ctl,
             _ => self.bw_alloc,
+        }
+    }
+
+    // The answer of a read that passes checks 1 to 3, whatever the tables are.
+    pub fn reading(self, size: u64, offset: u64) -> Reading
+        requires { ⌜ Ranges (setupOf (self .setup)) ⌝ }
+        ensures { λ r. ⌜ ((active configured used counters events : List ℕ) (t : totals.Totals) → Passes (state self active configured used counters events) t
+            → outcome (readingOf r) (state self active configured used counters events) ≡ step (state self active configured used counters events) (read size offset)) ⌝ }
+    {
+        match read_verdict(size, offset) {
+            Verdict::Failed(why) => Reading::Refused(why),
+            Verdict::Passed => {
+                let word = self.register(offset / 8);
+                Reading::Value(part(size, offset, word))
+            }
         }
     }
 
@@ -76,26 +86,13 @@ impl Record {
                 record: self,
                 reading: Reading::Refused(why),
             },
-            Check::Passed(_) => match read_verdict(size, offset) {
-                Verdict::Failed(why) => Read {
+            Check::Passed(_) => {
+                let reading = self.reading(size, offset);
+                Read {
                     record: self,
-                    reading: Reading::Refused(why),
-                },
-                Verdict::Passed => {
-                    let word = self.register(
-                        active,
-                        configured,
-                        used,
-                        counters,
-                        events,
-                        offset / 8,
-                    );
-                    Read {
-                        record: self,
-                        reading: Reading::Value(part(size, offset, word)),
-                    }
+                    reading,
                 }
-            },
+            }
         }
     }
 

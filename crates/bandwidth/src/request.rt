@@ -6,10 +6,9 @@ use crate::check::Check;
 use crate::check::Totals;
 use access::Refusal;
 use access::known_at;
-use grants::grant_of;
-use grants::holder_of;
-use grants::spend;
+use grants::give;
 use monitor::count_bytes;
+use tables::row_at;
 ghost use mathlib.Core.Path.{_≡_};
 ghost use Prim.Native.Nat.{_<_};
 ghost use Rattle.bandwidth_model.specs.Calls.{request};
@@ -18,7 +17,7 @@ ghost use Rattle.bandwidth.specs.View.{before, after, state, outcome, gr
 ghost use Rattle.bandwidth.specs.Checked.{Passes};
 
 impl Record {
-    // Leads a request to its holder, grants it bytes and counts them.
+    // Grants a request bytes by the words of its RCID, and counts them.
     fn serve(
         mut self,
         active: &[u32],
@@ -38,18 +37,20 @@ impl Record {
     {
         let setup = self.setup;
         let at = known_at(setup.na, at);
-        let holder = holder_of(setup, active, rcid, at);
-        let grant = grant_of(
+        let place = row_at(setup.nr, setup.na, rcid);
+        let from = place.from;
+        let to = place.to;
+        let given = give(
             setup,
-            active,
-            used,
+            &active[from..to],
+            &mut used[from..to],
             self.pool,
             totals.active,
-            holder,
+            at,
             bytes as u64,
         );
-        self.pool = spend(used, self.pool, holder, grant);
-        let sum = grant.reservation + grant.pool;
+        self.pool = given.pool;
+        let sum = given.bytes;
         count_bytes(setup.w, counters, events, mcid, at, kind, sum);
         Served {
             record: self,

@@ -17,16 +17,16 @@ ghost use Rattle.bandwidth_model.specs.Calls.{reset};
 ghost use Rattle.bandwidth_model.specs.Rules.{pairs, resetTable};
 ghost use Rattle.bandwidth_model.specs.Model.{step};
 ghost use Rattle.setup.specs.View.{setupOf};
-ghost use Rattle.bandwidth.specs.View.{before, after, outcome, ackOf};
+ghost use Rattle.bandwidth.specs.View.{before, after, outcome, ackOf, resetRow};
 ghost use Rattle.bandwidth.specs.Checked.{Fresh};
 
 // The Mweight that RCID 0 has after a reset.
 const RESET_WEIGHT: u64 = 1;
 
-// The settings of a reset.
-fn reset_table(setup: Setup, table: &mut [u32])
-    requires { ⌜ Ranges (setupOf setup) × (length (now table) ≡ pairs (setupOf setup)) ⌝ }
-    ensures { λ r. ⌜ now (table .exit) ≡ resetTable (setupOf setup) ⌝ }
+// The words of RCID 0 after a reset: its first AT holds, the others share it.
+pub fn reset_row(setup: Setup, row: &mut [u32])
+    requires { ⌜ Ranges (setupOf setup) ⌝ }
+    ensures { λ r. ⌜ now (row .exit) ≡ resetRow (setupOf setup) (length (now (row .entry))) ⌝ }
 {
     let holder = BwAlloc {
         rbwb: setup.mrbwb,
@@ -40,10 +40,18 @@ fn reset_table(setup: Setup, table: &mut [u32])
         sharedat: 0,
         useshared: 1,
     }.pack();
-    fill32(table, 0);
+    fill32(row, sharer as u32);
+    put32(row, 0, holder as u32);
+}
+
+// The settings of a reset.
+fn reset_table(setup: Setup, table: &mut [u32])
+    requires { ⌜ Ranges (setupOf setup) × (length (now table) ≡ pairs (setupOf setup)) ⌝ }
+    ensures { λ r. ⌜ now (table .exit) ≡ resetTable (setupOf setup) ⌝ }
+{
     let na = setup.na as usize;
-    fill32(&mut table[..na], sharer as u32);
-    put32(table, 0, holder as u32);
+    fill32(table, 0);
+    reset_row(setup, &mut table[..na]);
 }
 
 // All tables of a reset.

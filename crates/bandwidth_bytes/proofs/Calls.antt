@@ -1,191 +1,127 @@
--- The calls on bytes: the model's step by the code's record and words, and the bytes that it leaves.
+-- A call on bytes: refused by checks 1 to 3, or answered by the model's step.
 use mathlib.Core.Path.{_≡_, refl, sym, ap, subst, _∙_}
-use mathlib.Core.Bool.{Bool, not, cond}
-use mathlib.Core.List.{List}
-use Prim.Native.Nat.{ℕ, _<_}
-use lib.Dec.{T, eqb, lit<}
-use lib.ListN.{length, getD}
-use Rattle.words.specs.Words.{wordsOf, bytesOfAll, Holds}
-use Rattle.words.proofs.Table.{bytes-words, below-all, zero-bytes}
-use Rattle.words.proofs.Held.{length-held, length-table, put-held}
-use Rattle.words.proofs.Held as words
-use Rattle.runs.specs.Runs as runs
-use Rattle.access.specs.Checks.{first, setupChecks, checksOf}
-use Rattle.replies.specs.Replies as replies
-use Rattle.replies.specs.Replies.{reply}
+use mathlib.Core.Bool.{not}
+use mathlib.Core.List.{List, [], _∷_}
+use Prim.Native.Nat.{ℕ}
+use lib.Dec.{T, lit<}
+use lib.ListN.{length, replicate}
+use Rattle.words.specs.Words.{wordsOf, bytesOfAll, withWord, tableOf}
+use Rattle.words.proofs.Table.{zero-bytes}
+use Rattle.words.proofs.Held.{put-held}
+use Rattle.access.specs.Refusals.{numberOf}
+use Rattle.access.specs.declared.Refusal.{Refusal}
+use Rattle.access.specs.declared.Reading.{Reading}
+use Rattle.access.specs.declared.Reading.the-variants as reading
+use Rattle.replies.specs.Replies.{reply, refusal}
 use Rattle.replies.proofs.Laws as laws
-use Rattle.tables.proofs.Tests.{cases}
-use Rattle.bandwidth_model.specs.Rules.{Setup, setupOk}
-use Rattle.bandwidth_model.specs.Calls.{Call, reset, read, write, request, endWindow, Answer, refused}
+use Rattle.bandwidth_model.specs.Rules.{Setup, pairs}
+use Rattle.bandwidth_model.specs.Calls.{Call, reset, read, write, request, endWindow, refused, done, value, granted}
 use Rattle.bandwidth_model.specs.Claim.{isReset}
-use Rattle.bandwidth_model.specs.Facts.{Ranges}
-use Rattle.bandwidth_model.specs.Model.{State, Outcome, lengthsOk, checks, perform, refusal, step}
+use Rattle.bandwidth_model.specs.Model.{State, Outcome, step}
 use Rattle.bandwidth.specs.declared.Record.{Record}
 use Rattle.setup.specs.View.{setupOf}
-use Rattle.changes.proofs.Laws.{reply-none, registers-all, told-by}
-use Rattle.bandwidth.specs.View.{state, outcome}
-use Rattle.bandwidth_bytes.specs.Bytes.{Lent, lent, recordOf, stateBy, stateOf, bytesOf, Reply, replyTo, setupFor, byteRefusal, stepOn, stepBytes}
-use Rattle.bandwidth_bytes.specs.View.{wordsIn, Fits, Words}
-use Rattle.bandwidth_bytes.specs.declared.call.Call as code
-use Rattle.bandwidth_bytes.specs.declared.call.Call.the-variants as call
-use Rattle.bandwidth_bytes.specs.declared.call.Changes.{Changes}
-use Rattle.bandwidth_bytes.specs.Changes.{callOf, answerOf, after, outcomeOf, valueOf, bytesAfter, replyOf}
+use Rattle.bandwidth.specs.View.{state, outcome, readingOf}
+use Rattle.bandwidth.proofs.Calls.{end-done}
+use Rattle.bandwidth_bytes.specs.Bytes.{Lent, lent, stateOf, bytesOf, pointers, Reply, replyTo, setupFor, byteRefusal, stepBytes}
+use Rattle.bandwidth_bytes.specs.View.{wordsIn, stateIn, Tables, Words, Passing, Checked}
+use Rattle.bandwidth_bytes.specs.declared.check.Held.{Held}
+use Rattle.bandwidth_bytes.specs.declared.check.Check.{Check}
+use Rattle.bandwidth_bytes.specs.declared.check.Check.the-variants.{Passed, Failed}
 
--- bytes that are the same, table by table
-pub same-bytes : {r A C U N E r′ A′ C′ U′ N′ E′ : List ℕ} → r ≡ r′ → A ≡ A′ → C ≡ C′ → U ≡ U′ → N ≡ N′ → E ≡ E′ → lent r A C U N E ≡ lent r′ A′ C′ U′ N′ E′
-same-bytes p q₁ q₂ q₃ q₄ q₅ = rw (p, q₁, q₂, q₃, q₄, q₅) refl
+-- ---- what the checks found
 
--- ---- one call on bytes
+pub passed-of : {l : Lent} {r : Check} {h : Held} → Checked l r → r ≡ Passed h → Passing l h
+passed-of {l} k e = subst (Checked l) e k
+
+pub failed-of : {l : Lent} {r : Check} {n : ℕ} → Checked l r → r ≡ Failed n → (c : Call) → T (not (isReset c)) → refusal n (pointers c) l ≡ stepBytes l c
+failed-of {l} k e = subst (Checked l) e k
+
+-- ---- by checks 1 and 2
+
+-- every call but a reset goes by the record's set-up
+by-record : (l : Lent) (c : Call) → T (not (isReset c)) → setupFor l c ≡ stateOf l .setup
+unfolding setupFor
+by-record l (reset su) t = absurd t
+by-record l (read size offset) t = refl
+by-record l (write size offset v) t = refl
+by-record l (request rcid mcid at kind bytes) t = refl
+by-record l endWindow t = refl
 
 module _ (l : Lent) (c : Call) where
-  pub step-refused : (n : ℕ) → n ≡ byteRefusal (setupFor l c) l → (n ≡ 0 → ⊥) → reply n 0 l ≡ stepBytes l c
-  step-refused n e h = laws.step-refused step replyTo (λ k d. byteRefusal (setupFor k d) k) stateOf l c n e h
+  pub step-refused : (n : ℕ) → n ≡ byteRefusal (setupFor l c) l → (n ≡ 0 → ⊥) → refusal n (pointers c) l ≡ stepBytes l c
+  step-refused = laws.step-refused step pointers replyTo (λ k d. byteRefusal (setupFor k d) k) stateOf l c
 
-  pub step-taken : (r : Reply) → byteRefusal (setupFor l c) l ≡ 0 → r ≡ stepOn l (stateOf l) c → r ≡ stepBytes l c
-  step-taken r z e = laws.step-taken step replyTo (λ k d. byteRefusal (setupFor k d) k) stateOf l c r z e
+  -- a refusal of a call that goes by the record
+  pub refused-by : T (not (isReset c)) → (n : ℕ) → n ≡ byteRefusal (stateOf l .setup) l → (n ≡ 0 → ⊥) → refusal n (pointers c) l ≡ stepBytes l c
+  refused-by t n e h = step-refused n (e ∙ ap (λ (su : Setup). byteRefusal su l) (sym (by-record l c t))) h
 
--- ---- a call of the code
-
--- the bytes of what a call leaves
-pub left : (after : Record) (a c u n e r A C U N E : List ℕ) → r ≡ bytesOfAll 8 (wordsIn after) → A ≡ bytesOfAll 4 a → C ≡ bytesOfAll 4 c
-    → U ≡ bytesOfAll 4 u → N ≡ bytesOfAll 8 n → E ≡ bytesOfAll 2 e → lent r A C U N E ≡ bytesOf (state after a c u n e)
-unfolding bytesOf
-left after a c u n e r A C U N E p q₁ q₂ q₃ q₄ q₅ = same-bytes p q₁ q₂ q₃ q₄ q₅
-
--- a call of the code on a record that bytes hold
-module _ (bytes : List ℕ) (held : Record) (a c u n e : List ℕ) (h : wordsIn held ≡ wordsOf 8 12 bytes) (l : Lent) (call : Call) (after : Record) (a′ c′ u′ n′ e′ : List ℕ) (given : Answer)
-    (p : outcome given (state after a′ c′ u′ n′ e′) ≡ step (state held a c u n e) call) where
-  pub told-refused : (k m : ℕ) → given ≡ refused m → k ≡ m → reply k 0 l ≡ stepOn l (stateBy (wordsOf 8 12 bytes) a c u n e) call
-  unfolding replies.stepOn
-  told-refused k m g i = rw (← h, ← p, g, i) refl
-
-  pub told-done : (answer : Answer) (v : ℕ) (l′ : Lent) → given ≡ answer → replyTo l answer (state after a′ c′ u′ n′ e′) ≡ reply 0 v (bytesOf (state after a′ c′ u′ n′ e′))
-      → l′ ≡ bytesOf (state after a′ c′ u′ n′ e′) → reply 0 v l′ ≡ stepOn l (stateBy (wordsOf 8 12 bytes) a c u n e) call
-  unfolding replies.stepOn
-  told-done answer v l′ g k i = rw (← h, ← p, g, k, i) refl
-
--- ---- any other call, on the words of the bytes
+-- ---- by the model's step
 
 -- the state that the bytes hold
-state-held : (l : Lent) (held : Record) (a c u n e : List ℕ) → Words l a c u n e → wordsIn held ≡ wordsOf 8 12 (l .«record») → state held a c u n e ≡ stateOf l
+pub state-held : (l : Lent) (r : Record) → wordsIn r ≡ wordsOf 8 12 (l .«record») → stateIn l r ≡ stateOf l
 unfolding stateOf
-state-held l held a c u n e w h =
-    rw (← h, ← w .active .words-are, ← w .configured .words-are, ← w .used .words-are, ← w .counters .words-are, ← w .events .words-are) refl
+state-held l r h = rw (← h) refl
 
--- its set-up is in range
-pub ranges-held : (l : Lent) (held : Record) (a c u n e : List ℕ) → Words l a c u n e → wordsIn held ≡ wordsOf 8 12 (l .«record») → Ranges (stateOf l .setup)
-    → Ranges (setupOf (held .setup))
-ranges-held l held a c u n e w h r = subst (λ (s : State). Ranges (s .setup)) (sym (state-held l held a c u n e w h)) r
+module _ (l : Lent) (r : Record) (w : wordsIn r ≡ wordsOf 8 12 (l .«record»)) (z : byteRefusal (stateOf l .setup) l ≡ 0) (c : Call) (t : T (not (isReset c))) where
+  -- what answers the model's outcome answers the call
+  pub answered : (o : Outcome) → o ≡ step (stateIn l r) c → (p : Reply) → p ≡ replyTo l (pointers c) (o .answer) (o .state) → p ≡ stepBytes l c
+  answered o e p q =
+      laws.step-taken step pointers replyTo (λ k d. byteRefusal (setupFor k d) k) stateOf l c p (ap (λ (su : Setup). byteRefusal su l) (by-record l c t) ∙ z)
+      (laws.answered step pointers replyTo l (stateOf l) c o (e ∙ ap (λ (s : State). step s c) (state-held l r w)) p q)
 
-module _ (l : Lent) (held : Record) (a c u n e : List ℕ) (w : Words l a c u n e) (h : wordsIn held ≡ wordsOf 8 12 (l .«record»)) (long : length (l .«record») ≡ 96)
-    (below : (i : ℕ) → getD (l .«record») i 0 < 256) where
-  -- its words
-  record-held : Holds 8 (l .«record») (wordsIn held)
-  record-held = words.held 8 (lit< tt) (l .«record») (wordsIn held) (wordsIn held) (sym long) below h
+-- bytes that are those of a record's words and of the words of each table
+pub same-bytes : (r : Record) (a c u n e R A C U N E : List ℕ) → R ≡ bytesOfAll 8 (wordsIn r) → A ≡ bytesOfAll 4 a → C ≡ bytesOfAll 4 c → U ≡ bytesOfAll 4 u
+    → N ≡ bytesOfAll 8 n → E ≡ bytesOfAll 2 e → lent R A C U N E ≡ bytesOf (state r a c u n e)
+unfolding bytesOf
+same-bytes r a c u n e R A C U N E p q₁ q₂ q₃ q₄ q₅ = rw (p, q₁, q₂, q₃, q₄, q₅) refl
 
-  same : bytesOf (state held a c u n e) ≡ l
-  unfolding bytesOf
-  same =
-      rw (← record-held .bytes-are, ← w .active .bytes-are, ← w .configured .bytes-are, ← w .used .bytes-are, ← w .counters .bytes-are, ← w .events .bytes-are) refl
+module _ {l : Lent} {h : Held} (p : Passing l h) where
+  abbrev s : State
+  s = stateIn l (h .«record»)
 
-  -- the bytes of the state after it
-  bytes-after : (call : Call) → T (not (isReset call)) → (d : Changes) → bytesAfter l call d ≡ bytesOf (after (state held a c u n e) call d)
-  unfolding bytesOf
-  bytes-after (reset su) t d = absurd t
-  bytes-after (read size offset) t d = sym same
-  bytes-after (write size offset v) t d =
-      rw (
-        record-held .bytes-are,
-        registers-all (wordsIn held) 7 (d .«mon_ctl») (d .«mon_ctr_val») (d .«alloc_ctl») (d .«bw_alloc»),
-        ← w .active .bytes-are,
-        ← w .used .bytes-are,
-        put-held 4 (lit< tt) (d .place) (d .word) (l .configured) c (w .configured),
-        put-held 8 (lit< tt) (d .mcid) (d .counter) (l .counters) n (w .counters),
-        put-held 2 (lit< tt) (d .mcid) (d .event) (l .events) e (w .events),
-      ) refl
-  bytes-after (request rcid mcid at kind bytes) t d =
-      rw (
-        put-held 8 (lit< tt) 11 (d .pool) (l .«record») (wordsIn held) record-held,
-        ← w .active .bytes-are,
-        ← w .configured .bytes-are,
-        ← w .events .bytes-are,
-        put-held 4 (lit< tt) (d .place) (d .word) (l .used) u (w .used),
-        put-held 8 (lit< tt) (d .mcid) (d .counter) (l .counters) n (w .counters),
-      ) refl
-  bytes-after endWindow t d =
-      rw (
-        put-held 8 (lit< tt) 11 0 (l .«record») (wordsIn held) record-held,
-        ← w .configured .bytes-are,
-        ← w .counters .bytes-are,
-        ← w .events .bytes-are,
-        zero-bytes 4 (length u),
-        length-held 4 (l .used) u (w .used),
-      ) refl
+  -- the bytes of a state that is kept
+  kept : l ≡ bytesOf s
+  kept =
+      let w = p .words in
+      same-bytes (h .«record») _ _ _ _ _ _ _ _ _ _ _ (w .«record» .bytes-are) (w .active .bytes-are) (w .configured .bytes-are) (w .used .bytes-are) (w .counters .bytes-are) (w .events .bytes-are)
 
-  told-after : (call : Call) → T (not (isReset call)) → (d : Changes)
-      → reply 0 (valueOf call (d .value)) (bytesAfter l call d) ≡ replyTo l (answerOf call (d .value)) (after (state held a c u n e) call d)
-  told-after (reset su) t d = absurd t
-  told-after (read size offset) t d = ap (reply 0 (d .value)) (bytes-after (read size offset) t d)
-  told-after (write size offset v) t d = ap (reply 0 0) (bytes-after (write size offset v) t d)
-  told-after (request rcid mcid at kind bytes) t d = ap (reply 0 (d .value)) (bytes-after (request rcid mcid at kind bytes) t d)
-  told-after endWindow t d = ap (reply 0 0) (bytes-after endWindow t d)
+  module _ (c : Call) (t : T (not (isReset c))) where
+    -- a refusal by a later check
+    pub refused-then : (n : ℕ) → outcome (refused n) s ≡ step s c → refusal n (pointers c) l ≡ stepBytes l c
+    refused-then n e = answered l (h .«record») (p .record-is) (p .none) c t _ e _ refl
 
-  pub on-bytes : (asked call : Call) → asked ≡ call → T (not (isReset call)) → (d : Changes) → outcomeOf (state held a c u n e) call d ≡ step (state held a c u n e) call
-      → replyOf l asked d ≡ stepOn l (stateOf l) asked
-  on-bytes asked call q t d p =
-      subst (λ (x : Call). replyOf l x d ≡ stepOn l (stateOf l) x) (sym q)
-      (told-by step replyTo refused l (state held a c u n e) call (d .number) (valueOf call (d .value)) _ (bytesAfter l call d) p (told-after call t d) refl
-      ∙ ap (λ (s : State). stepOn l s call) (state-held l held a c u n e w h))
+    pub done-then : (x : State) (l′ : Lent) → outcome done x ≡ step s c → l′ ≡ bytesOf x → reply 0 [] l′ ≡ stepBytes l c
+    done-then x l′ e q = answered l (h .«record») (p .record-is) (p .none) c t _ e _ (ap (reply 0 []) q)
 
--- ---- checks 1 and 2 first
+    pub value-then : (v : ℕ) → outcome (value v) s ≡ step s c → reply 0 (v ∷ []) l ≡ stepBytes l c
+    value-then v e = answered l (h .«record») (p .record-is) (p .none) c t _ e _ (ap (reply 0 (v ∷ [])) kept)
 
-by-record : (l : Lent) (k : code.Call) → setupFor l (callOf k) ≡ stateOf l .setup
-unfolding setupFor
-by-record l (call.Read x) = refl
-by-record l (call.Write x) = refl
-by-record l (call.Request x) = refl
-by-record l call.EndWindow = refl
+    pub granted-then : (v : ℕ) (x : State) (l′ : Lent) → outcome (granted v) x ≡ step s c → l′ ≡ bytesOf x → reply 0 (v ∷ []) l′ ≡ stepBytes l c
+    granted-then v x l′ e q = answered l (h .«record») (p .record-is) (p .none) c t _ e _ (ap (reply 0 (v ∷ [])) q)
 
-module _ (l : Lent) (k : code.Call) where
-  pub perform-refused : (d : Changes) (n : ℕ) → d .number ≡ n → n ≡ byteRefusal (stateOf l .setup) l → (n ≡ 0 → ⊥) → replyOf l (callOf k) d ≡ stepBytes l (callOf k)
-  perform-refused d n e f h =
-      reply-none l n (d .number) _ _ e h
-      ∙ step-refused l (callOf k) n (f ∙ ap (λ (su : Setup). byteRefusal su l) (sym (by-record l k))) h
+-- ---- each call
 
-  pub perform-taken : (r : Reply) → byteRefusal (stateOf l .setup) l ≡ 0 → r ≡ stepOn l (stateOf l) (callOf k) → r ≡ stepBytes l (callOf k)
-  perform-taken r z e = step-taken l (callOf k) r (ap (λ (su : Setup). byteRefusal su l) (by-record l k) ∙ z) e
+module _ {l : Lent} {h : Held} (p : Passing l h) where
+  abbrev su : Setup
+  su = setupOf (h .«record» .setup)
 
--- ---- a reset goes by the lengths of the tables alone
+  abbrev tables : Tables su (l .active) (l .configured) (l .used) (l .counters) (l .events)
+  tables = p .long .tables
 
-reset-any : (l : Lent) (su : Setup) (s s′ : State) → lengthsOk su s ≡ lengthsOk su s′ → stepOn l s (reset su) ≡ stepOn l s′ (reset su)
-unfolding replies.stepOn runs.step refusal checks checksOf perform
-reset-any l su s s′ h =
-    let k : ℕ = first (setupChecks (setupOk su) (lengthsOk su s′)) 0 in
-    let to : State → Bool → Reply = λ x b. replyTo l (cond b (perform x (reset su)) (runs.refuse refused x k) .answer) (cond b (perform x (reset su)) (runs.refuse refused x k) .state) in
-    rw h (cases (λ b. to s b ≡ to s′ b) (eqb k 0) (λ _. refl) (λ _. refl))
+  module _ (size offset : ℕ) {r : Reading} (o : outcome (readingOf r) (stateIn l (h .«record»)) ≡ step (stateIn l (h .«record»)) (read size offset)) where
+    pub read-refused : (why : Refusal) (n : ℕ) → r ≡ reading.Refused why → n ≡ numberOf why → reply n (0 ∷ []) l ≡ stepBytes l (read size offset)
+    unfolding pointers
+    read-refused why n e i = rw i (refused-then p (read size offset) tt (numberOf why) (rw e at o))
 
-pub reset-on : (l : Lent) (a c u n e : List ℕ) (su : Setup) (r : Reply) → Fits l a c u n e
-    → r ≡ stepOn l (stateBy (wordsOf 8 12 (l .«record»)) a c u n e) (reset su) → r ≡ stepOn l (stateOf l) (reset su)
-unfolding stateOf lengthsOk
-reset-on l a c u n e su r f p =
-    p
-    ∙ reset-any l su (stateBy (wordsOf 8 12 (l .«record»)) a c u n e) (stateOf l)
-    (rw (
-      length-table 4 (lit< tt) a (l .active) (f .active-fits),
-      length-table 4 (lit< tt) c (l .configured) (f .configured-fits),
-      length-table 4 (lit< tt) u (l .used) (f .used-fits),
-      length-table 8 (lit< tt) n (l .counters) (f .counters-fit),
-      length-table 2 (lit< tt) e (l .events) (f .events-fit),
-    ) refl)
+    pub read-value : (v : ℕ) → r ≡ reading.Value v → reply 0 (v ∷ []) l ≡ stepBytes l (read size offset)
+    read-value v e = value-then p (read size offset) tt v (rw e at o)
 
--- ---- a read keeps the record
-
-read-keeps : (s : State) (size offset : ℕ) → step s (read size offset) .state ≡ s
-unfolding perform
-read-keeps s size offset = laws.leaves refusal perform refused s (read size offset) refl
-
-pub record-kept : (bytes : List ℕ) (held after : Record) (a c u n e : List ℕ) (given : Answer) (size offset : ℕ) → length bytes ≡ 96 → ((i : ℕ) → getD bytes i 0 < 256)
-    → wordsIn held ≡ wordsOf 8 12 bytes → outcome given (state after a c u n e) ≡ step (state held a c u n e) (read size offset) → bytes ≡ bytesOfAll 8 (wordsIn after)
-record-kept bytes held after a c u n e given size offset long below h p =
-    let s : state after a c u n e ≡ state held a c u n e = ap (λ (o : Outcome). o .state) p ∙ read-keeps (state held a c u n e) size offset in
-    sym (ap (λ (x : State). bytesOfAll 8 (recordOf x)) s ∙ ap (bytesOfAll 8) h ∙ bytes-words 8 12 bytes long (below-all 256 bytes below))
+  -- a window end: the configured bytes come into force, nothing is used
+  pub window-ended : (R A U : List ℕ) → R ≡ withWord 8 (l .«record») 11 0 → A ≡ l .configured → U ≡ replicate (length (l .used)) 0
+      → reply 0 [] (lent R A (l .configured) U (l .counters) (l .events)) ≡ stepBytes l endWindow
+  window-ended R A U r a u =
+      let w = p .words in
+      let none : U ≡ bytesOfAll 4 (replicate (pairs su) 0) = rw (u, tables .used-long, zero-bytes) refl in
+      done-then p endWindow tt _ _ (end-done (p .passes) (tableOf 4 (l .configured)) (replicate (pairs su) 0) refl refl)
+      (same-bytes _ _ _ _ _ _ _ _ _ _ _ _ (r ∙ put-held 8 (lit< tt) 11 0 (l .«record») (wordsIn (h .«record»)) (w .«record»)) (a ∙ w .configured .bytes-are) (w .configured .bytes-are) none
+      (w .counters .bytes-are) (w .events .bytes-are))

@@ -1,10 +1,13 @@
-// The bandwidth controller's record and tables as bytes, and calls on them with room for the tables' words.
-pub mod call;
-pub mod lent;
-pub mod perform;
+// The bandwidth controller's calls on a record and tables of bytes: check 3 by parts, and the words that a call names.
+mod check;
+mod lent;
 pub mod read;
-pub mod record;
-pub mod request;
+mod record;
 pub mod reset;
 pub mod window;
-pub mod write;
+
+// The refusal's number, 0 for none, and the value read or the bytes granted.
+pub struct Answer {
+    pub number: u64,
+    pub value: u64,
+}

@@ -1,32 +1,39 @@
-// Reads, by the tables' words.
-use crate::call::Changes;
-use crate::call::unchanged;
+// Reads on bytes.
+use crate::Answer;
+use crate::check::Check;
+use crate::check::checked;
 use access::Reading;
-use bandwidth::Record;
-use replies::refusal_number;
+use access::refusal_number;
 ghost use mathlib.Core.Path.{_≡_};
+ghost use mathlib.Core.List.{[], _∷_};
+ghost use Rattle.replies.specs.Replies.{reply};
 ghost use Rattle.bandwidth_model.specs.Calls.{read};
-ghost use Rattle.bandwidth_model.specs.Model.{step};
-ghost use Rattle.bandwidth.specs.View.{state};
-ghost use Rattle.bandwidth_bytes.specs.Changes.{outcomeOf};
+ghost use Rattle.bandwidth_bytes.specs.Bytes.{stepBytes};
+ghost use Rattle.bandwidth_bytes.specs.View.{before, after};
 
-pub fn read_on(
-    record: Record,
-    a: &[u32],
-    c: &[u32],
-    u: &[u32],
-    n: &[u64],
-    e: &[u16],
+pub fn read(
+    record: &[u8],
+    active: &[u8],
+    configured: &[u8],
+    used: &[u8],
+    counters: &[u8],
+    events: &[u8],
     size: u64,
     offset: u64,
-) -> Changes
-    ensures { λ r. ⌜ outcomeOf (state «record» (now (a .entry)) (now (c .entry)) (now (u .entry)) (now (n .entry)) (now (e .entry))) (read size offset) r
-        ≡ step (state «record» (now (a .entry)) (now (c .entry)) (now (u .entry)) (now (n .entry)) (now (e .entry))) (read size offset) ⌝ }
+) -> Answer
+    ensures { λ r. ⌜ reply (r .number) (r .value ∷ []) (after «record» active configured used counters events) ≡ stepBytes (before «record» active configured used counters events) (read size offset) ⌝ }
 {
-    let read = record.read(a, c, u, n, e, size, offset);
-    let reading = read.reading;
-    match reading {
-        Reading::Refused(why) => unchanged(refusal_number(why), 0),
-        Reading::Value(value) => unchanged(0, value),
+    match checked(record, active, configured, used, counters, events) {
+        Check::Failed(number) => Answer { number, value: 0 },
+        Check::Passed(held) => {
+            let given = held.record;
+            match given.reading(size, offset) {
+                Reading::Refused(why) => Answer {
+                    number: refusal_number(why),
+                    value: 0,
+                },
+                Reading::Value(value) => Answer { number: 0, value },
+            }
+        }
     }
 }

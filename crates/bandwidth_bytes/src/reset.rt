@@ -1,51 +1,87 @@
 // Resets on bytes.
-use crate::record::load_record;
+use crate::lent::byte_refusal;
 use crate::record::store_record;
-use access::Ack;
-use replies::refusal_number;
+use bandwidth::Record;
+use bandwidth::reset_row;
 use setup::Setup;
-use words::encode16;
-use words::encode32;
-use words::encode64;
+use words::clear8;
+use words::copy8;
+use words::store_part32;
 ghost use mathlib.Core.Path.{_≡_};
-ghost use Rattle.bandwidth_model.specs.Calls.{reset};
+ghost use mathlib.Core.List.{[]};
+ghost use Prim.Native.Nat.{_*_};
+ghost use lib.ListN.{length};
 ghost use Rattle.setup.specs.View.{setupOf};
+ghost use Rattle.words.specs.Words.{bytesOfAll};
 ghost use Rattle.replies.specs.Replies.{reply};
-ghost use Rattle.bandwidth_bytes.specs.Bytes.{lent, stateOf, stepOn};
-ghost use Rattle.bandwidth_bytes.specs.View.{Fits};
+ghost use Rattle.bandwidth_model.specs.Rules.{pairs, resetTable};
+ghost use Rattle.bandwidth_model.specs.Facts.{Ranges};
+ghost use Rattle.bandwidth_model.specs.Calls.{reset};
+ghost use Rattle.bandwidth_bytes.specs.Bytes.{stepBytes};
+ghost use Rattle.bandwidth_bytes.specs.View.{before, after, Tables, Fresh};
 
-// With room a, c, u, n and e for the tables' words. A reset reads no table, so none is decoded.
-pub fn reset_in(
+// The settings of a reset, with the words of RCID 0 set out in `row`.
+fn fill_table(setup: Setup, table: &mut [u8], row: &mut [u32])
+    requires { ⌜ Ranges (setupOf setup) × ((length (now table) ≡ pairs (setupOf setup) * 4) × (length (now row) ≡ setup .na)) ⌝ }
+    ensures { λ r. ⌜ now (table .exit) ≡ bytesOfAll 4 (resetTable (setupOf setup)) ⌝ }
+{
+    reset_row(setup, row);
+    clear8(table);
+    store_part32(row, table, 0);
+}
+
+fn reset_table(setup: Setup, table: &mut [u8])
+    requires { ⌜ Ranges (setupOf setup) × (length (now table) ≡ pairs (setupOf setup) * 4) ⌝ }
+    ensures { λ r. ⌜ now (table .exit) ≡ bytesOfAll 4 (resetTable (setupOf setup)) ⌝ }
+{
+    let na = setup.na as usize;
+    let mut row = [0u32; 8];
+    fill_table(setup, table, &mut row[..na]);
+}
+
+// The bytes of all tables of a reset.
+fn reset_tables(
+    setup: Setup,
+    active: &mut [u8],
+    configured: &mut [u8],
+    used: &mut [u8],
+    counters: &mut [u8],
+    events: &mut [u8],
+)
+    requires { ⌜ Ranges (setupOf setup) × Tables (setupOf setup) (now active) (now configured) (now used) (now counters) (now events) ⌝ }
+    ensures { λ r. ⌜ Fresh (setupOf setup) (now (active .exit)) (now (configured .exit)) (now (used .exit)) (now (counters .exit)) (now (events .exit)) ⌝ }
+{
+    reset_table(setup, configured);
+    copy8(active, configured);
+    clear8(used);
+    clear8(counters);
+    clear8(events);
+}
+
+pub fn reset(
     record: &mut [u8],
     active: &mut [u8],
     configured: &mut [u8],
     used: &mut [u8],
     counters: &mut [u8],
     events: &mut [u8],
-    a: &mut [u32],
-    c: &mut [u32],
-    u: &mut [u32],
-    n: &mut [u64],
-    e: &mut [u16],
     setup: Setup,
 ) -> u64
-    requires { ⌜ Fits (lent (now «record») (now active) (now configured) (now used) (now counters) (now events)) (now a) (now c) (now u) (now n) (now e) ⌝ }
-    ensures { λ r. ⌜ reply r 0 (lent (now («record» .exit)) (now (active .exit)) (now (configured .exit)) (now (used .exit)) (now (counters .exit)) (now (events .exit)))
-        ≡ stepOn (lent (now («record» .entry)) (now (active .entry)) (now (configured .entry)) (now (used .entry)) (now (counters .entry)) (now (events .entry))) (stateOf (lent (now («record» .entry)) (now (active .entry)) (now (configured .entry)) (now (used .entry)) (now (counters .entry)) (now (events .entry)))) (reset (setupOf setup)) ⌝ }
+    ensures { λ r. ⌜ reply r [] (after «record» active configured used counters events) ≡ stepBytes (before «record» active configured used counters events) (reset (setupOf setup)) ⌝ }
 {
-    let acked = load_record(record).reset(a, c, u, n, e, setup);
-    let after = acked.record;
-    let ack = acked.ack;
-    match ack {
-        Ack::Refused(why) => refusal_number(why),
-        Ack::Done => {
-            store_record(after, record);
-            encode32(a, active);
-            encode32(c, configured);
-            encode32(u, used);
-            encode64(n, counters);
-            encode16(e, events);
-            0
-        }
+    let number = byte_refusal(setup, record, active, configured, used, counters, events);
+    if number != 0 {
+        return number;
     }
+    let fresh = Record {
+        setup,
+        mon_ctl: 0,
+        mon_ctr_val: 0,
+        alloc_ctl: 0,
+        bw_alloc: 0,
+        pool: 0,
+    };
+    store_record(fresh, record);
+    reset_tables(setup, active, configured, used, counters, events);
+    0
 }

@@ -1,30 +1,33 @@
-// Window ends, by the tables' words.
-use crate::call::Changes;
-use crate::call::unchanged;
-use access::Ack;
-use bandwidth::Record;
-use replies::refusal_number;
+// Window ends on bytes.
+use crate::check::Check;
+use crate::check::checked;
+use words::clear8;
+use words::copy8;
+use words::put64;
 ghost use mathlib.Core.Path.{_≡_};
+ghost use mathlib.Core.List.{[]};
+ghost use Rattle.replies.specs.Replies.{reply};
 ghost use Rattle.bandwidth_model.specs.Calls.{endWindow};
-ghost use Rattle.bandwidth_model.specs.Model.{step};
-ghost use Rattle.bandwidth.specs.View.{state};
-ghost use Rattle.bandwidth_bytes.specs.Changes.{outcomeOf};
+ghost use Rattle.bandwidth_bytes.specs.Bytes.{stepBytes};
+ghost use Rattle.bandwidth_bytes.specs.View.{before, after};
 
-pub fn end_window_on(
-    record: Record,
-    a: &mut [u32],
-    c: &[u32],
-    u: &mut [u32],
-    n: &[u64],
-    e: &[u16],
-) -> Changes
-    ensures { λ r. ⌜ outcomeOf (state «record» (now (a .entry)) (now (c .entry)) (now (u .entry)) (now (n .entry)) (now (e .entry))) endWindow r
-        ≡ step (state «record» (now (a .entry)) (now (c .entry)) (now (u .entry)) (now (n .entry)) (now (e .entry))) endWindow ⌝ }
+pub fn end_window(
+    record: &mut [u8],
+    active: &mut [u8],
+    configured: &[u8],
+    used: &mut [u8],
+    counters: &[u8],
+    events: &[u8],
+) -> u64
+    ensures { λ r. ⌜ reply r [] (after «record» active configured used counters events) ≡ stepBytes (before «record» active configured used counters events) endWindow ⌝ }
 {
-    let acked = record.end_window(a, c, u, n, e);
-    let ack = acked.ack;
-    match ack {
-        Ack::Refused(why) => unchanged(refusal_number(why), 0),
-        Ack::Done => unchanged(0, 0),
+    match checked(record, active, configured, used, counters, events) {
+        Check::Failed(number) => number,
+        Check::Passed(_) => {
+            put64(record, 11, 0);
+            copy8(active, configured);
+            clear8(used);
+            0
+        }
     }
 }

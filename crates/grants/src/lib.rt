@@ -1,5 +1,4 @@
-// Requests: the holder that a request is led to, what it is granted, and what is used afterwards.
-use access::place;
+// Requests by the words of one RCID: the holder that a request is led to, what it is granted, and what is used afterwards.
 use fields::field;
 use settings::is_holder;
 use settings::is_sharer;
@@ -16,23 +15,23 @@ ghost use mathlib.Core.List.{List};
 ghost use Prim.Native.Nat.{ℕ, _-_, _*_, min};
 ghost use lib.Dec.{eqb};
 ghost use Rattle.tables.specs.Below.{Small};
-ghost use Rattle.bandwidth_model.specs.Rules.{reserved, weightOf, sharedAtOf, holderOf};
+ghost use Rattle.bandwidth_model.specs.Rules.{reserved, weightOf, sharedAtOf};
 ghost use Rattle.bandwidth_model.specs.Facts.{Ranges};
 ghost use Rattle.bandwidth_model.specs.Model.{spend};
 ghost use Rattle.setup.specs.View.{setupOf};
 ghost use Rattle.grants.specs.View.{usage, holderFrom, grantFrom};
-ghost use Rattle.grants.specs.Grants.{PairIn, TotalIs, Granted, Fits};
+ghost use Rattle.grants.specs.Grants.{holderIn, Granted, Fits, RowFits, RowGiven};
 
-// The place of the holder that a request is led to, if there is one.
-pub enum Holder {
+// The AT of the holder that a request is led to, if there is one.
+enum Holder {
     Nobody,
     Held(u64),
 }
 
 // The bytes granted from the holder's reservation and from the pool.
-pub struct Grant {
-    pub reservation: u64,
-    pub pool: u64,
+struct Grant {
+    reservation: u64,
+    pool: u64,
 }
 
 // The AT that a sharer shares.
@@ -42,19 +41,16 @@ fn shared_at(word: u64) -> u64
     field(word, 28, 3)
 }
 
-// The holder that a pair is led to: itself, or the one that it shares.
-pub fn holder_of(setup: Setup, active: &[u32], rcid: u64, at: u64) -> Holder
-    requires { ⌜ PairIn (setupOf setup) rcid at ⌝ }
-    ensures { λ r. ⌜ holderFrom r ≡ holderOf (setupOf setup) (now (active .entry)) rcid at ⌝ }
+// The holder that an AT is led to, by its RCID's words: itself, or the one that it shares.
+fn holder_of(row: &[u32], at: u64) -> Holder
+    ensures { λ r. ⌜ holderFrom r ≡ holderIn (now (row .entry)) at ⌝ }
 {
-    let own = place(setup.na, rcid, at);
-    let word = word32(active, own) as u64;
-    let other = place(setup.na, rcid, shared_at(word));
+    let word = word32(row, at as usize) as u64;
     if is_holder(word) {
-        return Holder::Held(own as u64);
+        return Holder::Held(at);
     }
     if is_sharer(word) {
-        return Holder::Held(other as u64);
+        return Holder::Held(shared_at(word));
     }
     Holder::Nobody
 }
@@ -76,18 +72,18 @@ fn from_pool(setup: Setup, word: u64, reserved: u64, pool: u64, rest: u64) -> u6
     pick(field(word, 20, 8) == 0, 0, least(rest, less(size, pool)))
 }
 
-// What a holder is granted of `bytes`: `reserved` is what the active table reserves, `pool` what the pool gave already.
-pub fn grant_of(
+// What a holder is granted of `bytes`: `reserved` is what all holders in force reserve, `pool` what the pool gave already.
+fn grant_of(
     setup: Setup,
-    active: &[u32],
+    row: &[u32],
     used: &[u32],
     pool: u64,
     reserved: u64,
     holder: Holder,
     bytes: u64,
 ) -> Grant
-    requires { ⌜ TotalIs (setupOf setup) (now active) reserved ⌝ }
-    ensures { λ r. ⌜ Granted (setupOf setup) (usage (now (active .entry)) (now (used .entry)) pool) (holderFrom holder) bytes (grantFrom r) ⌝ }
+    requires { ⌜ Ranges (setupOf setup) ⌝ }
+    ensures { λ r. ⌜ Granted (setupOf setup) reserved (now (row .entry)) (now (used .entry)) pool (holderFrom holder) bytes (grantFrom r) ⌝ }
 {
     match holder {
         Holder::Nobody => Grant {
@@ -95,7 +91,7 @@ pub fn grant_of(
             pool: 0,
         },
         Holder::Held(i) => {
-            let word = word32(active, i as usize) as u64;
+            let word = word32(row, i as usize) as u64;
             let own = from_reservation(setup, word, word32(used, i as usize) as u64, bytes);
             Grant {
                 reservation: own,
@@ -106,9 +102,9 @@ pub fn grant_of(
 }
 
 // Adds a grant to the used bytes, and returns what the pool gave with it.
-pub fn spend(used: &mut [u32], pool: u64, holder: Holder, grant: Grant) -> u64
+fn spend(used: &mut [u32], pool: u64, holder: Holder, grant: Grant) -> u64
     requires { ⌜ Fits (now used) pool (holderFrom holder) (grantFrom grant) ⌝ }
-    ensures { λ r. ⌜ ((active : List ℕ) → usage active (now (used .exit)) r ≡ spend (usage active (now (used .entry)) pool) (holderFrom holder) (grantFrom grant)) ⌝ }
+    ensures { λ r. ⌜ ((row : List ℕ) → usage row (now (used .exit)) r ≡ spend (usage row (now (used .entry)) pool) (holderFrom holder) (grantFrom grant)) ⌝ }
 {
     match holder {
         Holder::Nobody => pool,
@@ -117,5 +113,33 @@ pub fn spend(used: &mut [u32], pool: u64, holder: Holder, grant: Grant) -> u64
             put32(used, i as usize, (old + grant.reservation) as u32);
             pool + grant.pool
         }
+    }
+}
+
+// The bytes that a request is granted, and what the pool gave with them.
+pub struct Given {
+    pub bytes: u64,
+    pub pool: u64,
+}
+
+// A request of an AT for `bytes`, by its RCID's words in force and used.
+pub fn give(
+    setup: Setup,
+    row: &[u32],
+    used: &mut [u32],
+    pool: u64,
+    reserved: u64,
+    at: u64,
+    bytes: u64,
+) -> Given
+    requires { ⌜ RowFits (setupOf setup) reserved (now row) (now used) pool at bytes ⌝ }
+    ensures { λ r. ⌜ RowGiven (setupOf setup) reserved (now (row .entry)) (now (used .entry)) pool at bytes (now (used .exit)) (r .bytes) (r .pool) ⌝ }
+{
+    let holder = holder_of(row, at);
+    let grant = grant_of(setup, row, used, pool, reserved, holder, bytes);
+    let pool = spend(used, pool, holder, grant);
+    Given {
+        bytes: grant.reservation + grant.pool,
+        pool,
     }
 }

@@ -8,10 +8,10 @@ use native.Mathlib.Omega.{arith}
 use lib.Dec.{leb, ltb, eqb, leb→le, le→leb, ltb→lt, lt→ltb, eqb→eq}
 use lib.ListN.{getD, set, drop, replicate}
 use lib.Pow.{pow-pos}
-use Rattle.tables.specs.Below.{gather, allBelow, Small}
+use Rattle.tables.specs.Below.{unionBelow, allBelow, Small}
 use Rattle.tables.proofs.Tests.{eqb-in, same-test}
 use Rattle.tables.proofs.Laws.{all-same, drop-replicate}
-use Rattle.tables.proofs.Gather.{low-test, gather-below}
+use Rattle.tables.proofs.Union.{low-test, union-low}
 use Rattle.fields.specs.Layout.{pack}
 use Rattle.fields.specs.Registers.{allocCtl}
 use Rattle.fields.specs.declared.AllocCtl.{AllocCtl}
@@ -41,11 +41,11 @@ held-test su x =
     low : x ≡ x % 2 ^ su .ncblks → x < 2 ^ su .ncblks
     low e = rw e (mod-lt x (pow-pos (su .ncblks)))
 
-pub masks-test : (su : Setup) (n : ℕ) (f : ℕ → ℕ) → leb (gather n f) (allBlocks su) ≡ allBelow n (λ i. eqb (f i) (maskOf su (f i)))
+pub masks-test : (su : Setup) (n : ℕ) (f : ℕ → ℕ) → leb (unionBelow n f) (allBlocks su) ≡ allBelow n (λ i. eqb (f i) (maskOf su (f i)))
 unfolding allBlocks
 masks-test su n f =
     let k = su .ncblks in
-    ones-test k (gather n f) ∙ sym (low-test k (gather n f)) ∙ gather-below k n f ∙ all-same n _ _ (λ i l. held-test su (f i))
+    ones-test k (unionBelow n f) ∙ sym (low-test k (unionBelow n f)) ∙ union-low k n f ∙ all-same n _ _ (λ i l. held-test su (f i))
 
 -- the operation of alloc_ctl on the table, from what each step gives of the mask of the pair that it names
 pub alloc-words : (su : Setup) (v operand mask st : ℕ) (f : AllocCtl) (x : AllocWords) (masks : List ℕ) → Fields (su .na) v f → Small (allocation.status (su .nr) (su .na) (eqb operand 0) v) 5 st

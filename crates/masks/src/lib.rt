@@ -14,7 +14,7 @@ ghost use mathlib.Core.List.{List};
 ghost use Prim.Native.Nat.{ℕ, _<_};
 ghost use lib.ListN.{length, getD, set};
 ghost use lib.Dec.{eqb};
-ghost use Rattle.tables.specs.Below.{gather, allBelow};
+ghost use Rattle.tables.specs.Below.{unionBelow, allBelow};
 ghost use Rattle.access.specs.Pairs.{pair};
 ghost use Rattle.allocation.specs.Allocation.{rcidOf, atOf};
 ghost use Rattle.capacity_model.specs.Rules.{maskOf, allBlocks, hasBlock};
@@ -41,7 +41,7 @@ pub fn mask_of(setup: Setup, v: u64) -> u64
 // Whether no mask has a bit NCBLKS or above, by the union of the masks.
 pub fn union_ok(setup: Setup, bits: u64) -> bool
     requires { ⌜ Ranges (setupOf setup) ⌝ }
-    ensures { λ r. ⌜ ((n : ℕ) (f : ℕ → ℕ) → bits ≡ gather n f → r ≡ allBelow n (λ i. eqb (f i) (maskOf (setupOf setup) (f i)))) ⌝ }
+    ensures { λ r. ⌜ ((n : ℕ) (f : ℕ → ℕ) → bits ≡ unionBelow n f → r ≡ allBelow n (λ i. eqb (f i) (maskOf (setupOf setup) (f i)))) ⌝ }
 {
     bits <= all_blocks(setup)
 }

@@ -4,3 +4,4 @@ pub mod Forms
 pub mod Marks
 pub mod Passes
 pub mod Tables
+pub mod Sums

@@ -1,21 +1,23 @@
--- One turn of each pass, and the parts that a pass leaves out.
-use mathlib.Core.Path.{_≡_, refl, sym, ap, _∙_}
+-- One turn of each pass, and the tables that a pass leaves out.
+use mathlib.Core.Path.{_≡_, sym, _∙_}
 use mathlib.Core.Bool.{cond}
 use mathlib.Core.List.{List}
-use Prim.Native.Nat.{ℕ, zero, suc, _+_, _-_, _*_, _/_, _%_, _^_, _≤_, _<_}
-use native.Mathlib.Nat.{add-zero, add-suc, add-sub-of-le, zero-mul, one-mul, suc-mul, mul-le-mul, mul-le-mul-left, mul-le-mul-right, mod-eq-of-lt, le-trans, le-of-eq}
+use Prim.Native.Nat.{ℕ, _+_, _*_, _/_, _%_, _^_, _≤_, _<_}
+use native.Mathlib.Nat.{zero-mul, one-mul, suc-mul, mul-le-mul, mul-le-mul-left, mul-le-mul-right, mod-eq-of-lt, le-trans, le-of-eq}
 use native.Mathlib.Numerals.{add-one}
 use native.Mathlib.Omega.{arith}
 use borrow.Author.Count.{below-more}
-use lib.Bits.{bitOr, bitXor, or-zero-r, xor-add-and, and-le-l, and-le-r}
+use lib.Bits.{bitOr, bitXor, xor-add-and, and-le-l, and-le-r}
 use lib.Dec.{leb, leb→le, le→leb}
 use lib.ListN.{length, getD}
 use lib.Pow.{pow-mono}
-use Rattle.tables.specs.Below.{sumBelow, gather}
+use lib.Seq.{ext-getD}
+use Rattle.tables.specs.Below.{sumBelow, unionBelow}
 use Rattle.tables.proofs.Tests.{cases, cond-yes}
-use Rattle.tables.proofs.Laws.{sum-none, sum-add, sum-same, sum-le, sum-zero}
-use Rattle.wellformed.specs.Bits.{formBits, formAt, blocksAt, mark, markAt, lacking, rowAt, overAt, AtMost, Looked, Part}
-use Rattle.tables.proofs.Gather.{gather-none, gather-zero}
+use Rattle.tables.proofs.Laws.{sum-le, sum-zero}
+use Rattle.tables.proofs.Union.{zero-union}
+use Rattle.wellformed.specs.Bits.{formAt, blocksAt, markAt, sharingAt, overAt, AtMost}
+use Rattle.wellformed.specs.Tables.{TableSummed}
 use Rattle.wellformed.proofs.Bits.{or-ge-l, or-ge-r}
 use Rattle.wellformed.proofs.Forms.{unset, form-of}
 use Rattle.wellformed.proofs.Marks.{held-row}
@@ -42,148 +44,54 @@ row-next r na = rw (add-one, suc-mul)
 pub row-fits : (r nr na : ℕ) → r < nr → r * na + na ≤ nr * na
 row-fits r nr na h = le-trans (le-of-eq (row-next r na)) (mul-le-mul-right {m = r + 1} {n = nr} na (omega arith))
 
-pub part-of : {na lo hi nr : ℕ} {t : List ℕ} → na ≤ 8 → nr ≤ 256 → nr * na ≡ length t → lo ≤ hi → hi ≤ nr → Part na lo hi t
-part-of {na} {lo} {hi} {nr} n r e o h =
-    record {
-      na-high = n;
-      order = o;
-      inside = le-trans (mul-le-mul-right {m = hi} {n = nr} na h) (le-of-eq e);
-      few = omega (arith, mul-le-mul r n);
-    }
+-- the blocks of n words
+pub blocks-low : (t : List ℕ) (n : ℕ) → sumBelow n (blocksAt t) ≤ 65535 * n
+unfolding blocksAt
+blocks-low t n = sum-le n 65535 (blocksAt t) (λ k l. omega arith)
 
-pub words-order : {na lo hi : ℕ} {t : List ℕ} → Part na lo hi t → lo * na ≤ hi * na
-words-order {na} {lo} {hi} p = mul-le-mul-right {m = lo} {n = hi} na (p .order)
+-- ---- a number that no word is above
 
--- ---- what is at most gathered of a part
+module _ (f : ℕ → ℕ) where
+  pub at-most-none : (m : ℕ) → AtMost f 0 m
+  at-most-none m = record { each = λ k b. absurd (omega arith) }
 
-module _ (f : ℕ → ℕ) (lo : ℕ) where
-  pub at-most-none : (any : ℕ) → AtMost f lo lo any
-  at-most-none any = record { each = λ k a b. absurd (omega arith) }
-
-  pub at-most-next : (i any : ℕ) → AtMost f lo i any → AtMost f lo (i + 1) (bitOr any (f i))
-  at-most-next i any h =
-      record {
-        each = λ k a b.
-            below-more (λ j. lo ≤ j → f j ≤ bitOr any (f i)) i (λ j c d. le-trans (h .each j d c) (or-ge-l any (f i))) (λ d. or-ge-r any (f i)) k b a;
-      }
+  pub at-most-next : (i m : ℕ) → AtMost f i m → AtMost f (i + 1) (bitOr m (f i))
+  at-most-next i m h = record { each = below-more (λ j. f j ≤ bitOr m (f i)) i (λ j b. le-trans (h .each j b) (or-ge-l m (f i))) (or-ge-r m (f i)) }
 
 -- no bits in which two numbers differ
 xor-none : (a b : ℕ) → bitXor a b ≡ 0 → a ≡ b
 xor-none a b h = omega (arith, xor-add-and a b, and-le-l a b, and-le-r a b)
 
-gather-same : (n : ℕ) (f g : ℕ → ℕ) → ((k : ℕ) → k < n → f k ≡ g k) → gather n f ≡ gather n g
-unfolding gather
-gather-same zero f g h = refl
-gather-same (suc n) f g h = rw (gather-same n f g (λ k b. h k (omega arith)), h n (omega arith))
+-- two tables without a bit in which they differ
+pub same-words : (t u : List ℕ) → length t ≡ length u → AtMost (λ k. bitXor (getD t k 0) (getD u k 0)) (length t) 0 → t ≡ u
+same-words t u e h = ext-getD 0 t u e (λ k b. xor-none (getD t k 0) (getD u k 0) (omega (arith, h .each k b)))
 
--- ---- parts with nothing in them
+-- ---- tables in which nothing is wrong
 
-gather-skip : (f : ℕ → ℕ) (lo d : ℕ) → ((k : ℕ) → lo ≤ k → k < lo + d → f k ≡ 0) → gather (lo + d) f ≡ gather lo f
-unfolding gather
-gather-skip f lo zero h = rw (add-zero lo)
-gather-skip f lo (suc d) h =
-    ap (λ (x : ℕ). gather x f) (add-suc lo d) ∙ ap (bitOr (gather (lo + d) f)) (h (lo + d) (omega arith) (omega arith))
-    ∙ or-zero-r (gather (lo + d) f) ∙ gather-skip f lo d (λ k a b. h k a (omega arith))
+-- no word names an AT
+pub names-none : (na n : ℕ) (t : List ℕ) (any : ℕ) → any < 268435456 → AtMost (λ k. getD t k 0) (n * na) any → unionBelow n (sharingAt na t) ≡ 0
+unfolding sharingAt markAt
+names-none na n t any s h =
+    zero-union n (sharingAt na t)
+    (λ k b. let low : (a : ℕ) → a < na → getD t (k * na + a) 0 < 268435456 = λ a l. omega (arith, h .each (k * na + a) (omega (arith, row-fits k n na b))) in
+    held-row na (λ a. getD t (k * na + a) 0) (λ a l. omega (arith, low a l)) (λ a l p. absurd (omega (arith, low a l))))
 
-module _ (lo hi : ℕ) (order : lo ≤ hi) where
-  skipped : (f : ℕ → ℕ) → ((k : ℕ) → lo ≤ k → k < hi → f k ≡ 0) → gather hi f ≡ gather lo f
-  skipped f h =
-      ap (λ (x : ℕ). gather x f) (sym (add-sub-of-le {n = hi} {m = lo} order)) ∙ gather-skip f lo (hi - lo) (λ k a b. h k a (omega arith))
-
-  sum-from : (f : ℕ → ℕ) → sumBelow hi f ≡ sumBelow lo f + sumBelow (hi - lo) (λ i. f (lo + i))
-  sum-from f = ap (λ (x : ℕ). sumBelow x f) (sym (add-sub-of-le {n = hi} {m = lo} order)) ∙ sum-add lo (hi - lo) f
-
-  unsummed : (f : ℕ → ℕ) → ((k : ℕ) → lo ≤ k → k < hi → f k ≡ 0) → sumBelow hi f ≡ sumBelow lo f
-  unsummed f h = omega (arith, sum-from f, sum-zero (hi - lo) (λ i. f (lo + i)) (λ k b. h (lo + k) (omega arith) (omega arith)))
-
-  -- what a part adds to two sums that agree there
-  summed : (f g : ℕ → ℕ) → ((k : ℕ) → lo ≤ k → k < hi → f k ≡ g k) → sumBelow hi g ≡ sumBelow lo g + (sumBelow hi f - sumBelow lo f)
-  summed f g h =
-      omega (arith, sum-from f, sum-from g, sum-same (hi - lo) (λ i. f (lo + i)) (λ i. g (lo + i)) (λ k b. h (lo + k) (omega arith) (omega arith)))
-
--- rows of a part: where no AT is named, and of words 0
-module _ (na lo hi : ℕ) (t : List ℕ) (any : ℕ) (fit : (i : ℕ) → getD t i 0 < 4294967296) (order : lo ≤ hi)
-    (h : AtMost (λ k. getD t k 0) (lo * na) (hi * na) any) where
-  pub rows-skip : any < 268435456 → gather hi (rowAt na t) ≡ gather lo (rowAt na t)
-  unfolding rowAt markAt
-  rows-skip s =
-      skipped lo hi order (rowAt na t)
-      (λ k a b. held-row na (λ x. getD t (k * na + x) 0) (λ x. fit (k * na + x))
-      (λ x y u. let w = h .each (k * na + x) (omega (arith, mul-le-mul-right {m = lo} {n = k} na a)) (omega (arith, row-fits k hi na b)) in
-      absurd (omega arith)))
-
-  pub part-skip : any ≡ 0 → (form rows blocks : ℕ) → Looked na t lo form rows blocks → Looked na t hi form rows blocks
-  unfolding formAt blocksAt
-  part-skip z form rows blocks p =
-      let m = mul-le-mul-right {m = lo} {n = hi} na order in
-      let none : (k : ℕ) → lo * na ≤ k → k < hi * na → getD t k 0 ≡ 0 = λ k a b. omega (arith, h .each k a b) in
-      record {
-        words =
-            record {
-              bits-are = p .words .bits-are ∙ sym (skipped (lo * na) (hi * na) m (formAt t) (λ k a b. form-of (getD t k 0) (fit k) (unset (none k a b))));
-              blocks-are = p .words .blocks-are ∙ sym (unsummed (lo * na) (hi * na) m (blocksAt t) (λ k a b. omega (arith, none k a b)));
-              small = omega (arith, p .words .small);
-            };
-        rows-are = p .rows-are ∙ sym (rows-skip (omega arith));
-      }
-
-pub blocks-grow : {na lo hi f r b g s c : ℕ} {t : List ℕ} → Part na lo hi t → Looked na t lo f r b → Looked na t hi g s c → b ≤ c
-blocks-grow {na} {lo} {hi} {t = t} p before after =
-    omega (arith, sum-from (lo * na) (hi * na) (words-order p) (blocksAt t), before .words .blocks-are, after .words .blocks-are)
-
--- a part that two tables have, with nothing wrong in the first
-module _ (na lo hi : ℕ) (t u : List ℕ) (p : Part na lo hi t) {differ f r b g s c : ℕ} (before : Looked na t lo f r b) (after : Looked na t hi g s c)
-    (h : AtMost (λ k. bitXor (getD t k 0) (getD u k 0)) (lo * na) (hi * na) differ) (z : bitOr (bitOr differ g) s ≡ 0) where
-  same-word : (k : ℕ) → lo * na ≤ k → k < hi * na → getD t k 0 ≡ getD u k 0
-  same-word k i j = xor-none (getD t k 0) (getD u k 0) (omega (arith, h .each k i j, or-ge-l (bitOr differ g) s, or-ge-l differ g))
-
-  same-row : (k : ℕ) → lo ≤ k → k < hi → rowAt na t k ≡ rowAt na u k
-  unfolding rowAt markAt
-  same-row k i j =
-      ap lacking (gather-same na (markAt t (k * na)) (markAt u (k * na))
-      (λ x l. ap (mark x) (same-word (k * na + x) (omega (arith, mul-le-mul-right {m = lo} {n = k} na i)) (omega (arith, row-fits k hi na j)))))
-
-  form-clear : (k : ℕ) → k < hi * na → formAt t k ≡ 0
-  form-clear = gather-zero (hi * na) (formAt t) (sym (after .words .bits-are) ∙ omega (arith, or-ge-l (bitOr differ g) s, or-ge-r differ g))
-
-  rows-clear : (k : ℕ) → k < hi → rowAt na t k ≡ 0
-  rows-clear = gather-zero hi (rowAt na t) (sym (after .rows-are) ∙ omega (arith, or-ge-r (bitOr differ g) s))
-
-  pub part-same : {form rows blocks : ℕ} → Looked na u lo form rows blocks → Looked na u hi form rows (blocks + (c - b))
-  unfolding formAt blocksAt
-  part-same {blocks = blocks} q =
-      let o = words-order p in
-      let e : blocks + (c - b) ≡ sumBelow (hi * na) (blocksAt u) =
-      omega (
-        arith,
-        summed (lo * na) (hi * na) o (blocksAt t) (blocksAt u) (λ k i j. ap (λ (w : ℕ). w % 65536) (same-word k i j)),
-        before .words .blocks-are,
-        after .words .blocks-are,
-        q .words .blocks-are,
-      ) in
-      record {
-        words =
-            record {
-              bits-are = q .words .bits-are ∙ sym (skipped (lo * na) (hi * na) o (formAt u) (λ k i j. ap formBits (sym (same-word k i j)) ∙ form-clear k j));
-              blocks-are = e;
-              small = le-trans (le-of-eq e) (sum-le (hi * na) 65535 (blocksAt u) (λ k l. omega arith));
-            };
-        rows-are = q .rows-are ∙ sym (skipped lo hi (p .order) (rowAt na u) (λ k i j. sym (same-row k i j) ∙ rows-clear k j));
-      }
-
-pub looked-none : (na : ℕ) (t : List ℕ) → Looked na t 0 0 0 0
-looked-none na t =
+-- every word is 0
+pub zeros-summed : (na n : ℕ) (t : List ℕ) → AtMost (λ k. getD t k 0) (n * na) 0 → TableSummed na t n (record { form = 0; sharing = 0; blocks = 0 })
+unfolding formAt blocksAt
+zeros-summed na n t h =
+    let none : (k : ℕ) → k < n * na → getD t k 0 ≡ 0 = λ k b. omega (arith, h .each k b) in
     record {
-      words =
-          record {
-            bits-are = sym (ap (λ (x : ℕ). gather x (formAt t)) (zero-mul na) ∙ gather-none (formAt t));
-            blocks-are = sym (ap (λ (x : ℕ). sumBelow x (blocksAt t)) (zero-mul na) ∙ sum-none (blocksAt t));
-            small = omega arith;
-          };
-      rows-are = sym (gather-none (rowAt na t));
+      form = sym (zero-union (n * na) (formAt t) (λ k b. form-of (getD t k 0) (omega (arith, none k b)) (unset (none k b))));
+      sharing = sym (names-none na n t 0 (omega arith) h);
+      blocks = sym (sum-zero (n * na) (blocksAt t) (λ k b. omega (arith, none k b)));
     }
 
--- ---- parts with not too much used
+-- no rows
+pub none-summed : (na : ℕ) (t : List ℕ) → TableSummed na t 0 (record { form = 0; sharing = 0; blocks = 0 })
+none-summed na t = zeros-summed na 0 t (record { each = λ k b. absurd (omega (arith, zero-mul na)) })
+
+-- ---- not too much used
 
 module _ (q : ℕ) (active used : List ℕ) (k : ℕ) where
   within : getD used k 0 ≤ blocksAt active k * q → overAt q active used k ≡ 0
@@ -196,14 +104,13 @@ module _ (q : ℕ) (active used : List ℕ) (k : ℕ) where
       cases (λ b. _≡_ {A = ℕ} (cond b 0 4294967295) 0 → getD used k 0 ≤ blocksAt active k * q) (leb (getD used k 0) (blocksAt active k * q))
       (λ t e. leb→le (getD used k 0) (blocksAt active k * q) t) (λ t e. absurd (omega arith))
 
-module _ (q : ℕ) (active used : List ℕ) (lo hi any : ℕ) (order : lo ≤ hi) (z : any ≡ 0) where
+module _ (q : ℕ) (active used : List ℕ) (n : ℕ) {any : ℕ} (z : any ≡ 0) where
   -- nothing is used
-  pub used-skip : AtMost (λ k. getD used k 0) lo hi any → gather hi (overAt q active used) ≡ gather lo (overAt q active used)
-  used-skip h = skipped lo hi order (overAt q active used) (λ k a b. within q active used k (omega (arith, h .each k a b)))
+  pub used-none : AtMost (λ k. getD used k 0) n any → unionBelow n (overAt q active used) ≡ 0
+  used-none h = zero-union n (overAt q active used) (λ k b. within q active used k (omega (arith, h .each k b)))
 
   -- no more than a smaller q allows
-  pub rough-skip : (p : ℕ) → p ≤ q → AtMost (overAt p active used) lo hi any → gather hi (overAt q active used) ≡ gather lo (overAt q active used)
-  rough-skip p l h =
-      skipped lo hi order (overAt q active used)
-      (λ k a b. within q active used k
-      (le-trans (not-over p active used k (omega (arith, h .each k a b))) (mul-le-mul-left (blocksAt active k) l)))
+  pub rough-none : (p : ℕ) → p ≤ q → AtMost (overAt p active used) n any → unionBelow n (overAt q active used) ≡ 0
+  rough-none p l h =
+      zero-union n (overAt q active used)
+      (λ k b. within q active used k (le-trans (not-over p active used k (omega (arith, h .each k b))) (mul-le-mul-left (blocksAt active k) l)))

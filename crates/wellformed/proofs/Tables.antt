@@ -8,7 +8,7 @@ use native.Mathlib.Omega.{arith}
 use lib.Dec.{T, eqb, eqb→eq, leb, leb→le, le→leb}
 use lib.ListN.{length, getD}
 use Rattle.fields.specs.Registers as reg
-use Rattle.tables.specs.Below.{sumBelow, sumOf, allBelow, gather}
+use Rattle.tables.specs.Below.{sumBelow, sumOf, allBelow, unionBelow}
 use Rattle.tables.proofs.Tests.{and-l, and-r, and-in, eqb-in, same-test}
 use Rattle.tables.proofs.Laws.{sum-same, all-same}
 use Rattle.access.specs.Pairs.{pair, wordAt}
@@ -20,9 +20,11 @@ use Rattle.bandwidth_model.specs.Model.{tableOk}
 use Rattle.bandwidth_model.specs.Facts.{Sized}
 use Rattle.bandwidth_model.proofs.Words.{shared-0, blocks-0, shared-1, not-0, stored-fields-1, holder-in, holder-shared, not-holder-0}
 use Rattle.bandwidth_model.proofs.Settings.{View, unset, holds, follows, TableFacts, table-ok, table-facts}
-use Rattle.wellformed.specs.Bits.{formAt, blocksAt, markAt, rowAt, overAt, Looked}
-use Rattle.wellformed.specs.Tables.{tablesOk}
-use Rattle.tables.proofs.Gather.{gather-zero, zero-gather, none-bad}
+use Rattle.wellformed.specs.Bits.{formAt, blocksAt, markAt, sharingAt, overAt}
+use Rattle.wellformed.specs.Tables.{tablesOk, TableSummed, SummedTables, TablesChecked}
+use Rattle.wellformed.specs.declared.settings.TableSums.{TableSums}
+use Rattle.wellformed.specs.declared.settings.Sums.{Sums}
+use Rattle.tables.proofs.Union.{union-zero, zero-union, none-bad}
 use Rattle.wellformed.proofs.Forms as forms
 use Rattle.wellformed.proofs.Forms.{Form, low-blocks, shares-top, formed, form-of, form-shares, form-reserved}
 use Rattle.wellformed.proofs.Marks.{Led, row-held, held-row}
@@ -69,18 +71,18 @@ module _ (su : Setup) (t : List ℕ) (long : length t ≡ pairs su) where
 
   module _ (fit : (i : ℕ) → getD t i 0 < 4294967296) where
     -- from the passes to the facts
-    module _ (form : gather (su .nr * su .na) (formAt t) ≡ 0) (rows : gather (su .nr) (rowAt (su .na) t) ≡ 0) where
+    module _ (form : unionBelow (su .nr * su .na) (formAt t) ≡ 0) (rows : unionBelow (su .nr) (sharingAt (su .na) t) ≡ 0) where
       module _ (rcid at : ℕ) (hr : rcid < su .nr) (ha : at < su .na) where
         led : Led (su .na) (wordAt (su .na) t rcid) at
-        unfolding wordAt pair rowAt markAt
+        unfolding wordAt pair sharingAt markAt
         led =
-            row-held (su .na) (wordAt (su .na) t rcid) (λ a. fit (rcid * su .na + a)) (gather-zero (su .nr) (rowAt (su .na) t) rows rcid hr) at ha
+            row-held (su .na) (wordAt (su .na) t rcid) (λ a l. fit (rcid * su .na + a)) (union-zero (su .nr) (sharingAt (su .na) t) rows rcid hr) at ha
 
         pair-form : Form (wordAt (su .na) t rcid at)
         unfolding pairs wordAt formAt
         pair-form =
             let i = pair (su .na) rcid at in
-            formed (getD t i 0) (fit i) (gather-zero (su .nr * su .na) (formAt t) form i (pair-inside (su .nr) (su .na) rcid at hr ha)) (λ p. led p .0)
+            formed (getD t i 0) (fit i) (union-zero (su .nr * su .na) (formAt t) form i (pair-inside (su .nr) (su .na) rcid at hr ha)) (λ p. led p .0)
 
       word : (i : ℕ) → i < pairs su → Form (getD t i 0)
       word = by-pair pair-form
@@ -100,15 +102,15 @@ module _ (su : Setup) (t : List ℕ) (long : length t ≡ pairs su) where
               (form-holder (pair-form rcid (sharedAtOf w) hr (g .0)) (g .1))
 
     -- from the facts to the passes
-    no-form : TableFacts su t → gather (su .nr * su .na) (formAt t) ≡ 0
+    no-form : TableFacts su t → unionBelow (su .nr * su .na) (formAt t) ≡ 0
     unfolding pairs formAt
-    no-form f = zero-gather (su .nr * su .na) (formAt t) (λ i l. form-of (getD t i 0) (fit i) (words-form f i l))
+    no-form f = zero-union (su .nr * su .na) (formAt t) (λ i l. form-of (getD t i 0) (fit i) (words-form f i l))
 
-    no-rows : TableFacts su t → gather (su .nr) (rowAt (su .na) t) ≡ 0
-    unfolding wordAt pair rowAt markAt
+    no-rows : TableFacts su t → unionBelow (su .nr) (sharingAt (su .na) t) ≡ 0
+    unfolding wordAt pair sharingAt markAt
     no-rows f =
-        zero-gather (su .nr) (rowAt (su .na) t)
-        (λ rcid hr. held-row (su .na) (wordAt (su .na) t rcid) (λ a. fit (rcid * su .na + a)) (λ at ha. leads rcid at hr (f .words rcid at hr ha)))
+        zero-union (su .nr) (sharingAt (su .na) t)
+        (λ rcid hr. held-row (su .na) (wordAt (su .na) t rcid) (λ a l. fit (rcid * su .na + a)) (λ at ha. leads rcid at hr (f .words rcid at hr ha)))
       where
         leads : (rcid at : ℕ) → rcid < su .nr → View su t rcid at (wordAt (su .na) t rcid at) → Led (su .na) (wordAt (su .na) t rcid) at
         leads rcid at hr v p = by v
@@ -124,42 +126,45 @@ module _ (su : Setup) (t : List ℕ) (long : length t ≡ pairs su) where
             by (holds s v p) = absurd (not-0 w u v)
             by (follows s d o k h) = (u, (k, holder-blocks (f .words rcid (sharedAtOf w) hr k) h))
 
-    module _ {form rows blocks : ℕ} (l : Looked (su .na) t (su .nr) form rows blocks) where
-      there : T (eqb form 0 && eqb rows 0 && leb blocks (su .mrbwb)) → T (tableOk su t)
+    module _ {s : TableSums} (l : TableSummed (su .na) t (su .nr) s) where
+      abbrev passes : Bool
+      passes = eqb (s .form) 0 && eqb (s .sharing) 0 && leb (s .blocks) (su .mrbwb)
+
+      there : T passes → T (tableOk su t)
       there k =
-          let f : T (eqb form 0) = search (and-l, and-r) in
-          let r : T (eqb rows 0) = search (and-l, and-r) in
-          let b : T (leb blocks (su .mrbwb)) = search (and-l, and-r) in
-          let nf = sym (l .words .bits-are) ∙ eqb→eq form 0 f in
-          let nr = sym (l .rows-are) ∙ eqb→eq rows 0 r in
+          let f : T (eqb (s .form) 0) = search (and-l, and-r) in
+          let r : T (eqb (s .sharing) 0) = search (and-l, and-r) in
+          let b : T (leb (s .blocks) (su .mrbwb)) = search (and-l, and-r) in
+          let nf = sym (l .form) ∙ eqb→eq (s .form) 0 f in
+          let nr = sym (l .sharing) ∙ eqb→eq (s .sharing) 0 r in
           table-ok su t
           (record {
             long = long;
-            bounded = le-trans (le-of-eq (sym (sums (word nf nr)) ∙ sym (l .words .blocks-are))) (leb→le blocks (su .mrbwb) b);
+            bounded = le-trans (le-of-eq (sym (sums (word nf nr)) ∙ sym (l .blocks))) (leb→le (s .blocks) (su .mrbwb) b);
             words = view nf nr;
           })
 
-      blocks-total : T (tableOk su t) → blocks ≡ total t
-      blocks-total k = l .words .blocks-are ∙ sums (words-form (table-facts su t long k))
+      blocks-total : T (tableOk su t) → s .blocks ≡ total t
+      blocks-total k = l .blocks ∙ sums (words-form (table-facts su t long k))
 
-      back : T (tableOk su t) → T (eqb form 0 && eqb rows 0 && leb blocks (su .mrbwb))
+      back : T (tableOk su t) → T passes
       back k =
           let f = table-facts su t long k in
-          let a : T (eqb form 0) = eqb-in form 0 (l .words .bits-are ∙ no-form f) in
-          let b : T (eqb rows 0) = eqb-in rows 0 (l .rows-are ∙ no-rows f) in
-          let d : T (leb blocks (su .mrbwb)) = le→leb blocks (su .mrbwb) (le-trans (le-of-eq (blocks-total k)) (f .bounded)) in
+          let a : T (eqb (s .form) 0) = eqb-in (s .form) 0 (l .form ∙ no-form f) in
+          let b : T (eqb (s .sharing) 0) = eqb-in (s .sharing) 0 (l .sharing ∙ no-rows f) in
+          let d : T (leb (s .blocks) (su .mrbwb)) = le→leb (s .blocks) (su .mrbwb) (le-trans (le-of-eq (blocks-total k)) (f .bounded)) in
           search and-in
 
-      pub table-test : {x : Bool} → x ≡ (eqb form 0 && eqb rows 0 && leb blocks (su .mrbwb)) → (x ≡ tableOk su t) × (T x → blocks ≡ total t)
+      pub table-test : {x : Bool} → x ≡ passes → (x ≡ tableOk su t) × (T x → s .blocks ≡ total t)
       table-test e =
-          let k = e ∙ same-test (eqb form 0 && eqb rows 0 && leb blocks (su .mrbwb)) (tableOk su t) there back in
+          let k = e ∙ same-test passes (tableOk su t) there back in
           (k, λ h. blocks-total (subst T k h))
 
 -- ---- used bytes
 
 -- by Rbwb alone
 pub used-test : (q n : ℕ) (active used : List ℕ)
-    → eqb (gather n (overAt q active used)) 0 ≡ allBelow n (λ i. leb (getD used i 0) (rbwbOf (getD active i 0) * q))
+    → eqb (unionBelow n (overAt q active used)) 0 ≡ allBelow n (λ i. leb (getD used i 0) (rbwbOf (getD active i 0) * q))
 unfolding overAt blocksAt
 used-test q n active used =
     none-bad n 4294967294 (λ i. leb (getD used i 0) (blocksAt active i * q))
@@ -192,3 +197,24 @@ module _ (su : Setup) (active configured used counters events : List ℕ) (z : S
   tables-test {s} {u} {k} {e} es eu ek ee =
       guarded s u (allBelow (pairs su) within) k e (λ t. eu ∙ used-reserved (and-l (tableOk su active) (tableOk su configured) (subst T es t)))
       ∙ rw (es, ek, ee, z .counters-long, z .events-long)
+
+-- ---- from the sums of all rows
+
+pub tables-by : (su : Setup) (active configured used counters events : List ℕ) {s : Sums} {k e a c : Bool} → SummedTables su active configured used counters events s k e
+    → a ≡ (eqb (s .active .form) 0 && eqb (s .active .sharing) 0 && leb (s .active .blocks) (su .mrbwb))
+    → c ≡ (eqb (s .configured .form) 0 && eqb (s .configured .sharing) 0 && leb (s .configured .blocks) (su .mrbwb))
+    → TablesChecked su active configured used counters events
+    (record { ok = a && c && eqb (s .over) 0 && k && e; active = s .active .blocks; configured = s .configured .blocks })
+unfolding pairs
+tables-by su active configured used counters events {s} {k} {e} {a} {c} t ea ec =
+    let x = table-test su active (t .sized .active-long) (t .active-fits) (t .summed .active) ea in
+    let y = table-test su configured (t .sized .configured-long) (t .configured-fits) (t .summed .configured) ec in
+    let o : eqb (s .over) 0 ≡ allBelow (length used) (λ i. leb (getD used i 0) (rbwbOf (getD active i 0) * su .q)) =
+    ap (λ (n : ℕ). eqb n 0) (t .summed .over) ∙ used-test (su .q) (su .nr * su .na) active used
+    ∙ ap (λ (n : ℕ). allBelow n (λ i. leb (getD used i 0) (rbwbOf (getD active i 0) * su .q))) (sym (t .sized .used-long)) in
+    let both : (a && c) ≡ (tableOk su active && tableOk su configured) = rw (x .0, y .0) refl in
+    record {
+      ok = tables-test su active configured used counters events (t .sized) both o (t .counters-are) (t .events-are);
+      active = λ h. x .1 (search (and-l, and-r) depth 8);
+      configured = λ h. y .1 (search (and-l, and-r) depth 8);
+    }

@@ -1,12 +1,12 @@
--- What the passes over the tables gather: bits that are all 0 where nothing is wrong.
+-- What the passes over a table find: bits that are all 0 where nothing is wrong.
 use Prim.Native.Nat.{ℕ, _+_, _-_, _*_, _/_, _%_, _^_, _≤_, _<_}
 use mathlib.Core.Bool.{not, cond}
 use mathlib.Core.Path.{_≡_}
 use mathlib.Core.List.{List}
 use lib.Bits.{bitAnd, bitOr}
 use lib.Dec.{leb, eqb}
-use lib.ListN.{length, getD}
-use Rattle.tables.specs.Below.{sumBelow, gather}
+use lib.ListN.{getD}
+use Rattle.tables.specs.Below.{sumBelow, unionBelow}
 
 -- the bits of a settings word that may not be there: unnamed ones, the Mweight of a word with no Rbwb, useShared and sharedAT beside an Rbwb
 unfoldable pub formBits : ℕ → ℕ
@@ -31,31 +31,31 @@ unfoldable pub lacking : ℕ → ℕ
 lacking m = bitOr (m % 65536) (bitOr (m / 2 ^ 16) 1) - bitOr (m / 2 ^ 16) 1
 
 -- the ATs of an RCID that are shared and have no blocks, or named and not shared
-unfoldable pub rowAt : ℕ → List ℕ → ℕ → ℕ
-rowAt na t rcid = lacking (gather na (markAt t (rcid * na)))
+unfoldable pub sharingAt : ℕ → List ℕ → ℕ → ℕ
+sharingAt na t rcid = lacking (unionBelow na (markAt t (rcid * na)))
 
 -- all ones where more bytes are used than the blocks of the word hold
 unfoldable pub overAt : ℕ → List ℕ → List ℕ → ℕ → ℕ
 overAt q active used i = cond (leb (getD used i 0) (blocksAt active i * q)) 0 4294967295
 
--- nothing that f says of a part is above any
-pub record AtMost (f : ℕ → ℕ) (lo hi any : ℕ) : Type 0 where
-  pub each : (k : ℕ) → lo ≤ k → k < hi → f k ≤ any
+-- f is at most m below n
+pub record AtMost (f : ℕ → ℕ) (n m : ℕ) : Type 0 where
+  pub each : (k : ℕ) → k < n → f k ≤ m
 
--- the words below n are scanned
-pub record Scanned (t : List ℕ) (n bits blocks : ℕ) : Type 0 where
-  pub bits-are : bits ≡ gather n (formAt t)
+-- the first n words: none is above any, and their form bits and blocks
+pub record Scanned (t : List ℕ) (n any form blocks : ℕ) : Type 0 where
+  pub at-most : AtMost (λ k. getD t k 0) n any
+  pub form-is : form ≡ unionBelow n (formAt t)
   pub blocks-are : blocks ≡ sumBelow n (blocksAt t)
-  pub small : blocks ≤ 65535 * n
 
--- the RCIDs below n are looked at
-pub record Looked (na : ℕ) (t : List ℕ) (n form rows blocks : ℕ) : Type 0 where
-  pub words : Scanned t (n * na) form blocks
-  pub rows-are : rows ≡ gather n (rowAt na t)
-
--- the rows from lo to below hi lie in a table that is not too long
-pub record Part (na lo hi : ℕ) (t : List ℕ) : Type 0 where
-  pub na-high : na ≤ 8
-  pub order : lo ≤ hi
-  pub inside : hi * na ≤ length t
-  pub few : length t ≤ 2048
+-- a part of whole rows, at most 64 words, begins at the row r: next is the row after it, and its words are those from from to below to
+pub record SpanAt (na nr r next from to : ℕ) : Type 0 where
+  pub later : r < next
+  pub inside : next ≤ nr
+  pub from-is : from ≡ r * na
+  pub to-is : to ≡ next * na
+  pub order : from ≤ to
+  pub end : to ≤ nr * na
+  pub long : to - from ≡ (next - r) * na
+  pub short : to - from ≤ 64
+  pub few : to ≤ 2048

@@ -1,21 +1,18 @@
-// The settings tables: the form of their words, their sharers, and the blocks that each reserves.
-use crate::parts::differ_part;
-use crate::parts::empty_part;
-use crate::parts::part_end;
-use crate::parts::part_rows;
+// The settings tables and the used bytes, by sums of rows: the form of words, their sharers, the blocks reserved, the bytes used.
+use crate::parts::all_zero;
 use crate::parts::pick;
-use crate::rows::shared_part;
-use setup::Setup;
+use crate::parts::same;
+use crate::parts::span_at;
+use crate::rows::sharing_bits;
+use crate::usage::over_bits;
 ghost use mathlib.Core.Path.{_≡_};
 ghost use mathlib.Core.Bool.{_&&_};
-ghost use Prim.Native.Nat.{_*_, _≤_};
+ghost use mathlib.Core.List.{List};
+ghost use Prim.Native.Nat.{ℕ, _+_, _^_, _≤_, _<_};
 ghost use lib.Dec.{eqb, leb};
-ghost use lib.ListN.{length, getD};
-ghost use Rattle.bandwidth_model.specs.Rules.{pairs};
-ghost use Rattle.bandwidth_model.specs.Facts.{Ranges};
-ghost use Rattle.setup.specs.View.{setupOf};
-ghost use Rattle.wellformed.specs.Bits.{formBits, AtMost, Scanned, Looked, Part};
-ghost use Rattle.wellformed.specs.Tables.{SettingsSeen};
+ghost use lib.ListN.{length};
+ghost use Rattle.wellformed.specs.Bits.{formBits, Scanned};
+ghost use Rattle.wellformed.specs.Tables.{Table, Rows, TableSummed, Summed, TableAdded, Added, SumsFit};
 
 // The bits of a settings word that may not be there.
 fn form_bits(w: u32) -> u32
@@ -30,146 +27,181 @@ struct Scan {
     blocks: u32,
 }
 
-// The words from lo to below hi, after those below lo; any is of these words alone.
-fn scan_part(t: &[u32], lo: usize, hi: usize, form: u32, blocks: u32) -> Scan
-    requires { ⌜ ((lo ≤ hi) × ((hi ≤ length (now t)) × (length (now t) ≤ 2048))) × Scanned (now t) lo form blocks ⌝ }
-    ensures { λ r. ⌜ Scanned (now (t .entry)) hi (r .form) (r .blocks) × AtMost (λ k. getD (now (t .entry)) k 0) lo hi (r .any) ⌝ }
+// The words one by one: a number that none is above, the bits that may not be there, and the blocks.
+fn scan_words(t: &[u32]) -> Scan
+    requires { ⌜ length (now t) ≤ 2048 ⌝ }
+    ensures { λ r. ⌜ Scanned (now (t .entry)) (length (now (t .entry))) (r .any) (r .form) (r .blocks) ⌝ }
 {
     let mut any = 0u32;
-    let mut bits = form;
-    let mut sum = blocks;
-    for i in lo..hi {
+    let mut form = 0u32;
+    let mut blocks = 0u32;
+    for i in 0..t.len() {
         let w = t[i];
         any = any | w;
-        bits = bits | form_bits(w);
-        sum = sum + w % 65536;
+        form = form | form_bits(w);
+        blocks = blocks + w % 65536;
     }
-    Scan {
-        any: any,
-        form: bits,
-        blocks: sum,
-    }
+    Scan { any, form, blocks }
 }
 
-struct Found {
-    form: u32,
-    rows: u32,
-    blocks: u32,
+// What rows of a settings table hold: the bits that may not be there, the ATs shared without blocks, and the blocks.
+pub struct TableSums {
+    pub form: u32,
+    pub sharing: u32,
+    pub blocks: u32,
 }
 
-// The rows from lo to below hi, after those below lo: a part that is all 0 is passed over, and so are the rows of a part that names no AT.
-fn look_part(t: &[u32], lo: usize, hi: usize, na: u32, form: u32, rows: u32, blocks: u32) -> Found
-    requires { ⌜ Part na lo hi (now t) × Looked na (now t) lo form rows blocks ⌝ }
-    ensures { λ r. ⌜ Looked na (now (t .entry)) hi (r .form) (r .rows) (r .blocks) ⌝ }
+// The rows of a table: one that is all 0 is passed over, and so are the sharers of one that names no AT.
+fn sum_table(t: &[u32], rows: usize, na: u32) -> TableSums
+    requires { ⌜ Table na rows (now t) ⌝ }
+    ensures { λ r. ⌜ TableSummed na (now (t .entry)) rows r ⌝ }
 {
-    let first = lo * na as usize;
-    let last = hi * na as usize;
-    if empty_part(t, first, last) {
-        return Found {
-            form: form,
-            rows: rows,
-            blocks: blocks,
+    if all_zero(t) {
+        return TableSums {
+            form: 0,
+            sharing: 0,
+            blocks: 0,
         };
     }
-    let s = scan_part(t, first, last, form, blocks);
+    let s = scan_words(t);
     if s.any >> 28 == 0 {
-        return Found {
+        return TableSums {
             form: s.form,
-            rows: rows,
+            sharing: 0,
             blocks: s.blocks,
         };
     }
-    let shared = shared_part(t, lo, hi, na, rows);
-    Found {
+    let sharing = sharing_bits(t, rows, na);
+    TableSums {
         form: s.form,
-        rows: shared,
+        sharing,
         blocks: s.blocks,
     }
 }
 
-// The same of the configured table, where the table in force is looked at before and after: a part that both have adds the same.
-fn look_beside(
+// The same of the configured table, by the sums of the table in force where both have the same words.
+fn sum_beside(
     active: &[u32],
     configured: &[u32],
-    lo: usize,
-    hi: usize,
+    rows: usize,
     na: u32,
-    before: Found,
-    after: Found,
-    seen: Found,
-) -> Found
-    requires { ⌜ (Part na lo hi (now active) × (length (now active) ≡ length (now configured))) × (Looked na (now active) lo (before .form) (before .rows) (before .blocks) × (Looked na (now active) hi (after .form) (after .rows) (after .blocks) × Looked na (now configured) lo (seen .form) (seen .rows) (seen .blocks))) ⌝ }
-    ensures { λ r. ⌜ Looked na (now (configured .entry)) hi (r .form) (r .rows) (r .blocks) ⌝ }
+    sums: TableSums,
+) -> TableSums
+    requires { ⌜ (Table na rows (now active) × Table na rows (now configured)) × TableSummed na (now active) rows sums ⌝ }
+    ensures { λ r. ⌜ TableSummed na (now (configured .entry)) rows r ⌝ }
 {
-    let differ = differ_part(active, configured, lo * na as usize, hi * na as usize);
-    if differ | after.form | after.rows != 0 {
-        return look_part(configured, lo, hi, na, seen.form, seen.rows, seen.blocks);
+    if same(active, configured) {
+        return sums;
     }
-    let more = after.blocks - before.blocks;
-    let blocks = seen.blocks + more;
-    Found {
-        form: seen.form,
-        rows: seen.rows,
-        blocks: blocks,
-    }
+    sum_table(configured, rows, na)
 }
 
-struct Both {
-    active: Found,
-    configured: Found,
+// What rows of the tables in force, configured and used hold.
+pub struct Sums {
+    pub active: TableSums,
+    pub configured: TableSums,
+    pub over: u32,
 }
 
-// Both tables whole, part by part.
-fn look(active: &[u32], configured: &[u32], nr: usize, na: u32) -> Both
-    requires { ⌜ ((1 ≤ na) × (na ≤ 8)) × ((nr ≤ 256) × ((nr * na ≡ length (now active)) × (nr * na ≡ length (now configured)))) ⌝ }
-    ensures { λ r. ⌜ Looked na (now (active .entry)) nr (r .active .form) (r .active .rows) (r .active .blocks) × Looked na (now (configured .entry)) nr (r .configured .form) (r .configured .rows) (r .configured .blocks) ⌝ }
+// The rows of three tables or of parts of them.
+pub fn sum_rows(
+    active: &[u32],
+    configured: &[u32],
+    used: &[u32],
+    rows: usize,
+    na: u32,
+    q: u32,
+) -> Sums
+    requires { ⌜ Rows na q rows (now active) (now configured) (now used) ⌝ }
+    ensures { λ r. ⌜ Summed na q (now (active .entry)) (now (configured .entry)) (now (used .entry)) rows r ⌝ }
 {
-    let step = part_rows(na);
-    let mut a = Found {
-        form: 0,
-        rows: 0,
-        blocks: 0,
-    };
-    let mut c = a;
-    let mut r = 0usize;
-    while r < nr {
-        let e = part_end(r, step, nr);
-        let after = look_part(active, r, e, na, a.form, a.rows, a.blocks);
-        c = look_beside(active, configured, r, e, na, a, after, c);
-        a = after;
-        r = e;
-    }
-    Both {
+    let a = sum_table(active, rows, na);
+    let c = sum_beside(active, configured, rows, na, a);
+    let over = over_bits(active, used, q);
+    Sums {
         active: a,
         configured: c,
+        over,
     }
+}
+
+// The sums of no rows.
+pub fn no_sums() -> Sums
+    ensures { λ r. ⌜ ((na q : ℕ) (active configured used : List ℕ) → Summed na q active configured used 0 r) ⌝ }
+{
+    let none = TableSums {
+        form: 0,
+        sharing: 0,
+        blocks: 0,
+    };
+    Sums {
+        active: none,
+        configured: none,
+        over: 0,
+    }
+}
+
+fn add_table(x: TableSums, y: TableSums) -> TableSums
+    requires { ⌜ x .blocks + y .blocks < 2 ^ 32 ⌝ }
+    ensures { λ r. ⌜ TableAdded x y r ⌝ }
+{
+    TableSums {
+        form: x.form | y.form,
+        sharing: x.sharing | y.sharing,
+        blocks: x.blocks + y.blocks,
+    }
+}
+
+// The rows of x and those of y.
+pub fn add_sums(x: Sums, y: Sums) -> Sums
+    requires { ⌜ SumsFit x y ⌝ }
+    ensures { λ r. ⌜ Added x y r ⌝ }
+{
+    let active = add_table(x.active, y.active);
+    let configured = add_table(x.configured, y.configured);
+    Sums {
+        active,
+        configured,
+        over: x.over | y.over,
+    }
+}
+
+// All rows, part by part.
+pub fn sum_tables(
+    active: &[u32],
+    configured: &[u32],
+    used: &[u32],
+    nr: usize,
+    na: u32,
+    q: u32,
+) -> Sums
+    requires { ⌜ Rows na q nr (now active) (now configured) (now used) ⌝ }
+    ensures { λ r. ⌜ Summed na q (now (active .entry)) (now (configured .entry)) (now (used .entry)) nr r ⌝ }
+{
+    let mut sums = no_sums();
+    let mut r = 0usize;
+    while r < nr {
+        let s = span_at(r, nr, na);
+        let next = s.next;
+        let from = s.from;
+        let to = s.to;
+        let more = sum_rows(
+            &active[from..to],
+            &configured[from..to],
+            &used[from..to],
+            next - r,
+            na,
+            q,
+        );
+        sums = add_sums(sums, more);
+        r = next;
+    }
+    sums
 }
 
 // Whether nothing is wrong in a table, and it reserves no more blocks than it may.
-fn table_ok(found: Found, most: u64) -> bool
-    ensures { λ r. ⌜ r ≡ (eqb (found .form) 0 && eqb (found .rows) 0 && leb (found .blocks) most) ⌝ }
+pub fn table_ok(sums: TableSums, most: u64) -> bool
+    ensures { λ r. ⌜ r ≡ (eqb (sums .form) 0 && eqb (sums .sharing) 0 && leb (sums .blocks) most) ⌝ }
 {
-    (found.form == 0) & (found.rows == 0) & (found.blocks as u64 <= most)
-}
-
-pub struct Settings {
-    pub ok: bool,
-    pub active: u64,
-    pub configured: u64,
-}
-
-// Whether the settings tables are well formed, and the blocks that each reserves.
-pub fn settings_ok(setup: Setup, active: &[u32], configured: &[u32]) -> Settings
-    requires { ⌜ Ranges (setupOf setup) × ((length (now active) ≡ pairs (setupOf setup)) × (length (now configured) ≡ pairs (setupOf setup))) ⌝ }
-    ensures { λ r. ⌜ SettingsSeen (setupOf setup) (now (active .entry)) (now (configured .entry)) r ⌝ }
-{
-    let seen = look(active, configured, setup.nr as usize, setup.na as u32);
-    let a = seen.active;
-    let c = seen.configured;
-    let ok = table_ok(a, setup.mrbwb) & table_ok(c, setup.mrbwb);
-    Settings {
-        ok: ok,
-        active: a.blocks as u64,
-        configured: c.blocks as u64,
-    }
+    (sums.form == 0) & (sums.sharing == 0) & (sums.blocks as u64 <= most)
 }

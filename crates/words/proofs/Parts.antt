@@ -9,7 +9,6 @@ use lib.Seq.{take-all, length-take-le, drop-drop, take-at, drop-at}
 use Rattle.tables.specs.Parts.{part, withPart}
 use Rattle.words.specs.Words.{wordOf, wordsOf, bytesOfAll, tableOf, Holds, Below}
 use Rattle.words.proofs.Table.{length-words, length-all, all-append, word-at, bytes-words, below-all, words-below}
-use Rattle.words.proofs.Held.{length-held}
 
 -- ---- the words of a part
 
@@ -53,18 +52,18 @@ module _ (k m : ℕ) (ws : List ℕ) (h : m ≤ length ws) where
   pub bytes-drop : drop (m * k) (bytesOfAll k ws) ≡ bytesOfAll k (drop m ws)
   bytes-drop = rw (split, drop-at _ _ (m * k) before)
 
-part-bytes : (k from n : ℕ) (bs ws new : List ℕ) → from + n ≤ length ws → Holds k bs ws
+part-bytes : (k from n : ℕ) (bs ws new : List ℕ) → from + n ≤ length ws → bs ≡ bytesOfAll k ws
     → withPart (from * k) (n * k) bs (bytesOfAll k new) ≡ bytesOfAll k (withPart from n ws new)
 part-bytes k from n bs ws new l h =
     let rest : n ≤ length (drop from ws) = rw length-drop (omega arith) in
-    rw (h .bytes-are, bytes-take k from ws (omega arith), bytes-drop k from ws (omega arith), bytes-drop k n (drop from ws) rest, all-append, all-append) refl
+    rw (h, bytes-take k from ws (omega arith), bytes-drop k from ws (omega arith), bytes-drop k n (drop from ws) rest, all-append, all-append) refl
 
 -- encoding words into the bytes from a word on leaves the bytes of the words with that part replaced
 pub put-part : (k from end : ℕ) (bs words sub : List ℕ) → 0 < k → (from + length words) * k ≤ length bs → end ≡ from * k + length words * k
-    → sub ≡ bytesOfAll k words → (ws : List ℕ) → Holds k bs ws → withPart (from * k) (end - from * k) bs sub ≡ bytesOfAll k (withPart from (length words) ws words)
+    → sub ≡ bytesOfAll k words → (ws : List ℕ) → bs ≡ bytesOfAll k ws → withPart (from * k) (end - from * k) bs sub ≡ bytesOfAll k (withPart from (length words) ws words)
 put-part k from end bs words sub z h d e ws q =
     let n : end - from * k ≡ length words * k = omega arith in
-    let l : length ws * k ≡ length bs = length-held k bs ws q in
+    let l : length ws * k ≡ length bs = sym (ap length q ∙ length-all k ws) in
     let m : from + length words ≤ length ws = le-of-mul-le-mul-right (rw (← l) at h) z in
     rw (e, n) (part-bytes k from (length words) bs ws words m q)
 

@@ -3,7 +3,7 @@ use crate::load16;
 use crate::load64;
 ghost use mathlib.Core.Path.{_≡_};
 ghost use lib.ListN.{length, getD};
-ghost use Rattle.tables.specs.Below.{gather};
+ghost use Rattle.tables.specs.Below.{unionBelow};
 ghost use Rattle.words.specs.Words.{tableOf};
 
 pub fn word16(b: &[u8], i: usize) -> u16
@@ -24,7 +24,7 @@ pub fn word64(b: &[u8], i: usize) -> u64
 
 // Every bit of all words.
 pub fn union64(b: &[u8]) -> u64
-    ensures { λ r. ⌜ r ≡ gather (length (tableOf 8 (now (b .entry)))) (λ i. getD (tableOf 8 (now (b .entry))) i 0) ⌝ }
+    ensures { λ r. ⌜ r ≡ unionBelow (length (tableOf 8 (now (b .entry)))) (λ i. getD (tableOf 8 (now (b .entry))) i 0) ⌝ }
 {
     let mut bits = 0u64;
     for i in 0..b.len() / 8 {

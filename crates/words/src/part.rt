@@ -8,7 +8,7 @@ ghost use mathlib.Core.List.{List};
 ghost use Prim.Native.Nat.{ℕ, _+_, _*_, _≤_};
 ghost use lib.ListN.{length};
 ghost use Rattle.tables.specs.Parts.{part, withPart};
-ghost use Rattle.words.specs.Words.{bytesOfAll, tableOf, Holds};
+ghost use Rattle.words.specs.Words.{bytesOfAll, tableOf};
 
 // The words from `from` on, as many as `words` holds.
 pub fn load_part16(bytes: &[u8], from: usize, words: &mut [u16])
@@ -38,7 +38,7 @@ pub fn load_part64(bytes: &[u8], from: usize, words: &mut [u64])
 // Stores words as those from `from` on.
 pub fn store_part32(words: &[u32], bytes: &mut [u8], from: usize)
     requires { ⌜ (from + length (now words)) * 4 ≤ length (now bytes) ⌝ }
-    ensures { λ _. ⌜ ((ws : List ℕ) → Holds 4 (now (bytes .entry)) ws → now (bytes .exit) ≡ bytesOfAll 4 (withPart from (length (now (words .entry))) ws (now (words .entry)))) ⌝ }
+    ensures { λ _. ⌜ ((ws : List ℕ) → now (bytes .entry) ≡ bytesOfAll 4 ws → now (bytes .exit) ≡ bytesOfAll 4 (withPart from (length (now (words .entry))) ws (now (words .entry)))) ⌝ }
 {
     let at = from * 4;
     let end = at + words.len() * 4;
