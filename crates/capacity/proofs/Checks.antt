@@ -4,33 +4,38 @@ use mathlib.Core.Bool.{Bool, true, false, not, cond, _&&_}
 use mathlib.Core.List.{[], _∷_}
 use Prim.Native.Nat.{ℕ, _^_, _<_}
 use borrow.Author.Tests.{eq-eqb}
-use lib.Dec.{T, eqb, eqb→eq, nleb→lt, leb, ltb→lt, ltb}
+use native.Mathlib.Omega.{arith}
+use lib.Dec.{T, eqb, eqb→eq, nleb→lt, leb, ltb→lt, lt→ltb, ltb}
 use lib.ListN.{length, getD}
+use lib.Pow.{pow-pos}
 use Rattle.fields.specs.Layout.{get, kept}
 use Rattle.fields.specs.Registers as reg
 use Rattle.fields.proofs.Registers.{capacityCounter-kept}
 use Rattle.tables.specs.Below.{allBelow}
-use Rattle.tables.proofs.Tests.{and-l, and-r, not-not, nor-l, nor-r}
-use Rattle.tables.proofs.Laws.{all-at}
+use Rattle.tables.proofs.Tests.{and-l, and-r, and-in, not-not, nor-l, nor-r, eqb-in, is-true}
+use Rattle.tables.proofs.Laws.{every-below}
 use Rattle.access.specs.Checks as access
 use Rattle.access.specs.Checks.{_gives_, first}
 use Rattle.access.proofs.Checks.{first-append, first-other, first-passes, none-holds}
 use Rattle.allocation.specs.Allocation.{controlOk}
-use Rattle.monitor.specs.Monitor.{monWord, statusOf, counterOk, settingOk, monitorOk}
-use Rattle.monitor.specs.Occupancy.{lastEvent}
+use Rattle.monitor.specs.Monitor.{monWord, statusOf, counterOk, monitorOk}
 use Rattle.monitor.proofs.Forms.{named-all}
 use Rattle.capacity_model.specs.Rules.{Setup, setupOk, maskOf}
 use Rattle.capacity_model.specs.Facts.{Sized}
 use Rattle.capacity_model.specs.Model.{State, allocationOk, wellFormed, lengthsOk, setupChecks, stateChecks, blockChecks}
 use Rattle.capacity_model.proofs.Setup.{ranges}
 use Rattle.capacity_model.proofs.Steps.{Passing}
-use Rattle.capacity.specs.Checked.{Passes, Named}
+use Rattle.capacity.specs.Checked.{Passes, Named, TablesJudged}
 
 -- ---- checks 1 and 2
 
 pub sized : (su : Setup) (s : State) → T (lengthsOk su s) → Sized su (s .alloc .masks) (s .monitor .counters) (s .monitor .events)
 unfolding lengthsOk
 sized su s t = search (eqb→eq, and-l, and-r) depth 9
+
+pub setup-passes : (su : Setup) (s : State) → T (setupOk su) → Sized su (s .alloc .masks) (s .monitor .counters) (s .monitor .events) → 0 ≡ first (setupChecks su s) 0
+unfolding access.setupChecks lengthsOk
+setup-passes su s t z = let l : T (lengthsOk su s) = search (eqb-in, and-in) depth 9 in rw (is-true (setupOk su) t, is-true (lengthsOk su s) l) refl
 
 module _ (su : Setup) (s : State) (e : 0 ≡ first (setupChecks su s) 0) where
   pub setup-passed : T (setupOk su)
@@ -85,16 +90,13 @@ module _ (s : State) where
       let v = s .monitor .value in
       eq-eqb v (kept reg.capacityCounter v) (named-all reg.capacityCounter capacityCounter-kept v h)
 
-  pub well-formed-is : Sized (s .setup) (s .alloc .masks) (s .monitor .counters) (s .monitor .events) → s .monitor .value < 2 ^ 64 → (a b m c k e : Bool)
+  pub well-formed-is : {m k e : Bool} → TablesJudged (s .setup) (s .alloc .masks) (s .monitor .counters) (s .monitor .events) m k e → s .monitor .value < 2 ^ 64 → (a b c : Bool)
       → a ≡ controlOk (s .setup .na) (s .alloc .ctl) → b ≡ eqb (s .alloc .mask) (maskOf (s .setup) (s .alloc .mask))
-      → m ≡ allBelow (length (s .alloc .masks)) (λ i. eqb (getD (s .alloc .masks) i 0) (maskOf (s .setup) (getD (s .alloc .masks) i 0)))
-      → c ≡ eqb (s .monitor .ctl) (monWord (s .setup .na) (s .monitor .ctl) 0 (statusOf (s .monitor .ctl)))
-      → k ≡ allBelow (length (s .monitor .counters)) (λ i. counterOk reg.capacityCounter reg.capacityCtr (s .setup .w) (getD (s .monitor .counters) i 0))
-      → e ≡ allBelow (length (s .monitor .events)) (λ i. settingOk (s .setup .na) lastEvent (getD (s .monitor .events) i 0))
-      → (a && b && m && (c && k && e)) ≡ wellFormed s
+      → c ≡ eqb (s .monitor .ctl) (monWord (s .setup .na) (s .monitor .ctl) 0 (statusOf (s .monitor .ctl))) → (a && b && m && (c && k && e)) ≡ wellFormed s
   unfolding wellFormed allocationOk monitorOk
-  well-formed-is z h a b m c k e ea eb em ec ek ee =
-      rw (ea, eb, em, ec, ek, ee, z .masks-long, z .counters-long, z .events-long, value-test h, and-one) refl
+  well-formed-is t h a b c ea eb ec =
+      let z = t .sized in
+      rw (ea, eb, ec, t .masks-are, t .counters-are, t .events-are, z .masks-long, z .counters-long, z .events-long, value-test h, and-one) refl
 
 -- ---- checks 7 and 8
 
@@ -108,13 +110,15 @@ named su rcid mcid block e =
       block-in = nleb→lt (su .ncblks) block (f .1 .0);
     }
 
--- ---- a counter is below 2^W
+-- ---- a counter is below 2^W; that of an MCID that is not there reads 0
 
-pub counter-low : (s : State) → Passes s → (mcid : ℕ) → mcid < s .setup .nm → get reg.capacityCtr (getD (s .monitor .counters) mcid 0) < 2 ^ s .setup .w
+pub counter-low : (s : State) → Passes s → (mcid : ℕ) → get reg.capacityCtr (getD (s .monitor .counters) mcid 0) < 2 ^ s .setup .w
 unfolding wellFormed monitorOk counterOk
-counter-low s p mcid h =
+counter-low s p mcid =
     let t = p .wellformed in
-    let ok : (i : ℕ) → Bool = λ i. counterOk reg.capacityCounter reg.capacityCtr (s .setup .w) (getD (s .monitor .counters) i 0) in
+    let ok : ℕ → Bool = λ x. counterOk reg.capacityCounter reg.capacityCtr (s .setup .w) x in
+    let all : T (allBelow (s .setup .nm) (λ i. ok (getD (s .monitor .counters) i 0))) = search (and-l, and-r) depth 8 in
     let word = getD (s .monitor .counters) mcid 0 in
-    let all : T (allBelow (s .setup .nm) ok) = search (and-l, and-r) depth 8 in
-    ltb→lt (get reg.capacityCtr word) (2 ^ s .setup .w) (and-l (ltb (get reg.capacityCtr word) (2 ^ s .setup .w)) (eqb word (kept reg.capacityCounter word)) (all-at (s .setup .nm) ok all mcid h))
+    let none : T (ok 0) = and-in (ltb (get reg.capacityCtr 0) (2 ^ s .setup .w)) (eqb 0 (kept reg.capacityCounter 0)) (lt→ltb (get reg.capacityCtr 0) (2 ^ s .setup .w) (omega (arith, pow-pos (s .setup .w)))) tt in
+    ltb→lt (get reg.capacityCtr word) (2 ^ s .setup .w)
+    (and-l (ltb (get reg.capacityCtr word) (2 ^ s .setup .w)) (eqb word (kept reg.capacityCounter word)) (every-below ok (s .monitor .counters) (s .setup .nm) (p .sized .counters-long) none all mcid))

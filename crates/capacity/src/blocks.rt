@@ -1,5 +1,7 @@
 // Cache events: fills and evictions.
 use crate::Acked;
+use crate::EvictWords;
+use crate::FillWords;
 use crate::Filled;
 use crate::Filling;
 use crate::Record;
@@ -7,21 +9,28 @@ use access::Ack;
 use access::Refusal;
 use access::Verdict;
 use access::known_at;
-use access::place;
 use masks::Setup;
 use masks::has_block;
-use monitor::count_evict;
-use monitor::count_fill;
+use monitor::counted_evict;
+use monitor::counted_fill;
+use tables::put64;
+use tables::word16;
 use tables::word64;
 ghost use mathlib.Core.Path.{_≡_};
-ghost use Prim.Native.Nat.{_<_};
+ghost use mathlib.Core.List.{List};
+ghost use Prim.Native.Nat.{ℕ, _^_, _<_};
+ghost use lib.ListN.{set};
+ghost use Rattle.fields.specs.Layout.{get};
+ghost use Rattle.fields.specs.Registers.{capacityCtr};
 ghost use Rattle.access.specs.Checks.{first};
+ghost use Rattle.access.specs.Pairs.{wordAt, knownAt};
 ghost use Rattle.access.specs.Refusals.{verdictOf};
 ghost use Rattle.capacity_model.specs.Facts.{Ranges};
 ghost use Rattle.capacity_model.specs.Calls.{fill, evict};
-ghost use Rattle.capacity_model.specs.Model.{blockChecks, fillAllowed, step};
+ghost use Rattle.capacity_model.specs.Model.{blockChecks, step};
 ghost use Rattle.masks.specs.View.{setupOf};
-ghost use Rattle.capacity.specs.View.{before, after, outcome, ackOf, fillingOf};
+ghost use Rattle.capacity.specs.View.{state, before, after, outcome, ackOf, fillingOf};
+ghost use Rattle.capacity.specs.Checked.{Passed, CounterIn};
 
 // Checks 7 and 8.
 fn block_verdict(setup: Setup, rcid: u64, mcid: u64, block: u64) -> Verdict
@@ -37,22 +46,68 @@ fn block_verdict(setup: Setup, rcid: u64, mcid: u64, block: u64) -> Verdict
 }
 
 impl Record {
-    // Whether the mask of the pair has the block.
-    fn fill_allowed(
+    // A fill in a state that passes checks 1 to 3: by the mask of its pair and the counter of its MCID.
+    pub fn fill_words(
         self,
-        masks: &[u64],
-        counters: &[u64],
-        events: &[u16],
+        mask: u64,
+        counter: u64,
+        setting: u16,
         rcid: u64,
+        mcid: u64,
         at: u64,
         block: u64,
-    ) -> bool
-        requires { ⌜ Ranges (setupOf (self .setup)) × ((rcid < self .setup .nr) × (block < self .setup .ncblks)) ⌝ }
-        ensures { λ r. ⌜ r ≡ fillAllowed (before self masks counters events) rcid at block ⌝ }
+    ) -> FillWords
+        requires { ⌜ Ranges (setupOf (self .setup)) × (get capacityCtr counter < 2 ^ self .setup .w) ⌝ }
+        ensures { λ r. ⌜ ((ms ns es : List ℕ) → Passed (state self ms ns es) → (rcid < self .setup .nr → mask ≡ wordAt (self .setup .na) ms rcid (knownAt (self .setup .na) at))
+            → CounterIn (state self ms ns es) mcid counter setting
+            → outcome (fillingOf (r .filling)) (state self ms (set ns mcid (r .counter)) es) ≡ step (state self ms ns es) (fill rcid mcid at block)) ⌝ }
     {
-        let na = self.setup.na;
-        let i = place(na, rcid, known_at(na, at));
-        has_block(word64(masks, i), block)
+        let setup = self.setup;
+        match block_verdict(setup, rcid, mcid, block) {
+            Verdict::Failed(why) => FillWords {
+                filling: Filling::Refused(why),
+                counter,
+            },
+            Verdict::Passed => {
+                if has_block(mask, block) {
+                    FillWords {
+                        filling: Filling::Allowed,
+                        counter: counted_fill(setup.w, counter, setting, known_at(setup.na, at)),
+                    }
+                } else {
+                    FillWords {
+                        filling: Filling::NotAllowed,
+                        counter,
+                    }
+                }
+            }
+        }
+    }
+
+    // An eviction in a state that passes checks 1 to 3: by the counter of its MCID.
+    pub fn evict_words(
+        self,
+        counter: u64,
+        setting: u16,
+        rcid: u64,
+        mcid: u64,
+        at: u64,
+        block: u64,
+    ) -> EvictWords
+        ensures { λ r. ⌜ ((ms ns es : List ℕ) → Passed (state self ms ns es) → CounterIn (state self ms ns es) mcid counter setting
+            → outcome (ackOf (r .ack)) (state self ms (set ns mcid (r .counter)) es) ≡ step (state self ms ns es) (evict rcid mcid at block)) ⌝ }
+    {
+        let setup = self.setup;
+        match block_verdict(setup, rcid, mcid, block) {
+            Verdict::Failed(why) => EvictWords {
+                ack: Ack::Refused(why),
+                counter,
+            },
+            Verdict::Passed => EvictWords {
+                ack: Ack::Done,
+                counter: counted_evict(counter, setting, known_at(setup.na, at)),
+            },
+        }
     }
 
     pub fn fill(
@@ -67,32 +122,30 @@ impl Record {
     ) -> Filled
         ensures { λ r. ⌜ outcome (fillingOf (r .filling)) (after (r .«record») masks counters events) ≡ step (before self masks counters events) (fill rcid mcid at block) ⌝ }
     {
-        let setup = self.setup;
         match self.check(masks, counters, events) {
             Verdict::Failed(why) => Filled {
                 record: self,
                 filling: Filling::Refused(why),
             },
-            Verdict::Passed => match block_verdict(setup, rcid, mcid, block) {
-                Verdict::Failed(why) => Filled {
+            Verdict::Passed => {
+                let mask = word64(masks, self.setup.pair_at(rcid, at));
+                let i = mcid as usize;
+                let filled = self.fill_words(
+                    mask,
+                    word64(counters, i),
+                    word16(events, i),
+                    rcid,
+                    mcid,
+                    at,
+                    block,
+                );
+                put64(counters, i, filled.counter);
+                let filling = filled.filling;
+                Filled {
                     record: self,
-                    filling: Filling::Refused(why),
-                },
-                Verdict::Passed => {
-                    if self.fill_allowed(masks, counters, events, rcid, at, block) {
-                        count_fill(setup.w, counters, events, mcid, known_at(setup.na, at));
-                        Filled {
-                            record: self,
-                            filling: Filling::Allowed,
-                        }
-                    } else {
-                        Filled {
-                            record: self,
-                            filling: Filling::NotAllowed,
-                        }
-                    }
+                    filling,
                 }
-            },
+            }
         }
     }
 
@@ -108,25 +161,25 @@ impl Record {
     ) -> Acked
         ensures { λ r. ⌜ outcome (ackOf (r .ack)) (after (r .«record») masks counters events) ≡ step (before self masks counters events) (evict rcid mcid at block) ⌝ }
     {
-        let setup = self.setup;
         match self.check(masks, counters, events) {
             Verdict::Failed(why) => Acked {
                 record: self,
                 ack: Ack::Refused(why),
             },
-            Verdict::Passed => match block_verdict(setup, rcid, mcid, block) {
-                Verdict::Failed(why) => Acked {
-                    record: self,
-                    ack: Ack::Refused(why),
-                },
-                Verdict::Passed => {
-                    count_evict(counters, events, mcid, known_at(setup.na, at));
-                    Acked {
-                        record: self,
-                        ack: Ack::Done,
-                    }
-                }
-            },
+            Verdict::Passed => {
+                let i = mcid as usize;
+                let evicted = self.evict_words(
+                    word64(counters, i),
+                    word16(events, i),
+                    rcid,
+                    mcid,
+                    at,
+                    block,
+                );
+                put64(counters, i, evicted.counter);
+                let ack = evicted.ack;
+                Acked { record: self, ack }
+            }
         }
     }
 }

@@ -9,15 +9,18 @@ use masks::masks_ok;
 use monitor::capacity_counters_ok;
 use monitor::events_ok;
 ghost use mathlib.Core.Path.{_≡_};
+ghost use mathlib.Core.List.{List};
+ghost use Prim.Native.Nat.{ℕ};
 ghost use Rattle.access.specs.Checks.{first};
 ghost use Rattle.access.specs.Refusals.{verdictOf};
 ghost use Rattle.capacity_model.specs.Facts.{Ranges, Sized};
 ghost use Rattle.capacity_model.specs.Model.{lengthsOk, wellFormed, setupChecks, stateChecks};
 ghost use Rattle.masks.specs.View.{setupOf};
-ghost use Rattle.capacity.specs.View.{before};
+ghost use Rattle.capacity.specs.View.{state, before};
+ghost use Rattle.capacity.specs.Checked.{TablesJudged};
 
 // The highest EVT_ID that the capacity controller knows.
-const LAST_EVENT: u16 = 1;
+pub const LAST_EVENT: u16 = 1;
 
 impl Record {
     // Check 2, by a set-up.
@@ -30,19 +33,30 @@ impl Record {
         (masks.len() == pairs) & (counters.len() == nm) & (events.len() == nm)
     }
 
+    // Check 3, by whether the words of each table are well formed.
+    pub fn judge(self, masks: bool, counters: bool, events: bool) -> bool
+        requires { ⌜ Ranges (setupOf (self .setup)) ⌝ }
+        ensures { λ r. ⌜ ((ms ns es : List ℕ) → TablesJudged (setupOf (self .setup)) ms ns es masks counters events → r ≡ wellFormed (state self ms ns es)) ⌝ }
+    {
+        let setup = self.setup;
+        let allocation = control_ok(setup.na, self.alloc_ctl)
+            & (self.block_mask == mask_of(setup, self.block_mask))
+            & masks;
+        let monitoring = monitor::control_ok(setup.na, self.mon_ctl) & counters & events;
+        allocation & monitoring
+    }
+
     // Check 3.
     fn well_formed(self, masks: &[u64], counters: &[u64], events: &[u16]) -> bool
         requires { ⌜ Ranges (setupOf (self .setup)) × Sized (setupOf (self .setup)) (now masks) (now counters) (now events) ⌝ }
         ensures { λ r. ⌜ r ≡ wellFormed (before self masks counters events) ⌝ }
     {
         let setup = self.setup;
-        let allocation = control_ok(setup.na, self.alloc_ctl)
-            & (self.block_mask == mask_of(setup, self.block_mask))
-            & masks_ok(setup, masks);
-        let monitoring = monitor::control_ok(setup.na, self.mon_ctl)
-            & capacity_counters_ok(counters, setup.w as u32)
-            & events_ok(events, setup.na as u16, LAST_EVENT);
-        allocation & monitoring
+        self.judge(
+            masks_ok(setup, masks),
+            capacity_counters_ok(counters, setup.w as u32),
+            events_ok(events, setup.na as u16, LAST_EVENT),
+        )
     }
 
     // Checks 1 and 2, by a set-up.

@@ -7,6 +7,7 @@ mod reset;
 use access::Ack;
 use access::Reading;
 use access::Refusal;
+pub use check::LAST_EVENT;
 use masks::Setup;
 
 // The set-up, and the registers as they read.
@@ -38,4 +39,30 @@ pub struct Read {
 pub struct Filled {
     pub record: Record,
     pub filling: Filling,
+}
+
+// The record, and the words of the pair and of the MCID that a written value names.
+pub struct WriteWords {
+    pub record: Record,
+    pub mask: u64,
+    pub counter: u64,
+    pub setting: u16,
+}
+
+// What a write answers and leaves.
+pub struct Wrote {
+    pub ack: Ack,
+    pub left: WriteWords,
+}
+
+// What a fill answers, and the counter of its MCID.
+pub struct FillWords {
+    pub filling: Filling,
+    pub counter: u64,
+}
+
+// The same for an eviction.
+pub struct EvictWords {
+    pub ack: Ack,
+    pub counter: u64,
 }

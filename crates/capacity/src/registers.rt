@@ -2,6 +2,8 @@
 use crate::Acked;
 use crate::Read;
 use crate::Record;
+use crate::WriteWords;
+use crate::Wrote;
 use access::Ack;
 use access::Reading;
 use access::Verdict;
@@ -10,19 +12,27 @@ use access::read_verdict;
 use access::replaced;
 use access::write_verdict;
 use fields::CapacityCapabilities;
+use masks::alloc_after;
 use masks::mask_of;
-use masks::write_alloc;
-use monitor::Registers;
+use masks::named_pair;
 use monitor::capacity_status;
-use monitor::write_mon;
+use monitor::mon_after;
+use monitor::named_mcid;
+use tables::put16;
+use tables::put64;
+use tables::word16;
+use tables::word64;
 ghost use mathlib.Core.Path.{_≡_};
+ghost use mathlib.Core.List.{List};
+ghost use Prim.Native.Nat.{ℕ};
 ghost use Rattle.access.specs.Access.{registersEnd, writeChecks};
 ghost use Rattle.access.specs.Checks.{first};
 ghost use Rattle.capacity_model.specs.Facts.{Ranges};
 ghost use Rattle.capacity_model.specs.Calls.{read, write};
 ghost use Rattle.capacity_model.specs.Model.{capabilities, register, writeAt, step};
 ghost use Rattle.masks.specs.View.{setupOf};
-ghost use Rattle.capacity.specs.View.{before, after, outcome, ackOf, readingOf};
+ghost use Rattle.capacity.specs.View.{state, before, after, outcome, ackOf, readingOf};
+ghost use Rattle.capacity.specs.Checked.{Passed, WordsIn, wrote};
 
 impl Record {
     // What capabilities reads; FRCID is 0.
@@ -38,9 +48,9 @@ impl Record {
     }
 
     // The register that an offset lies in.
-    fn register(self, masks: &[u64], counters: &[u64], events: &[u16], n: u64) -> u64
+    fn register(self, n: u64) -> u64
         requires { ⌜ Ranges (setupOf (self .setup)) ⌝ }
-        ensures { λ r. ⌜ r ≡ register (before self masks counters events) n ⌝ }
+        ensures { λ r. ⌜ ((ms ns es : List ℕ) → r ≡ register (state self ms ns es) n) ⌝ }
     {
         match n {
             0 => self.capabilities(),
@@ -48,6 +58,17 @@ impl Record {
             2 => self.mon_ctr_val,
             3 => self.alloc_ctl,
             _ => self.block_mask,
+        }
+    }
+
+    // A read in a state that passes checks 1 to 3; it needs no word of a table.
+    pub fn reading(self, size: u64, offset: u64) -> Reading
+        requires { ⌜ Ranges (setupOf (self .setup)) ⌝ }
+        ensures { λ r. ⌜ ((ms ns es : List ℕ) → Passed (state self ms ns es) → outcome (readingOf r) (state self ms ns es) ≡ step (state self ms ns es) (read size offset)) ⌝ }
+    {
+        match read_verdict(size, offset) {
+            Verdict::Failed(why) => Reading::Refused(why),
+            Verdict::Passed => Reading::Value(part(size, offset, self.register(offset / 8))),
         }
     }
 
@@ -66,63 +87,89 @@ impl Record {
                 record: self,
                 reading: Reading::Refused(why),
             },
-            Verdict::Passed => match read_verdict(size, offset) {
-                Verdict::Failed(why) => Read {
-                    record: self,
-                    reading: Reading::Refused(why),
-                },
-                Verdict::Passed => {
-                    let word = self.register(masks, counters, events, offset / 8);
-                    Read {
-                        record: self,
-                        reading: Reading::Value(part(size, offset, word)),
-                    }
-                }
+            Verdict::Passed => Read {
+                record: self,
+                reading: self.reading(size, offset),
             },
         }
     }
 
-    // Stores what an accepted write reaches, and performs its operation.
+    // Stores what an accepted write reaches, and performs its operation on the words that its value names.
     fn store(
         mut self,
-        masks: &mut [u64],
-        counters: &mut [u64],
-        events: &mut [u16],
+        mut mask: u64,
+        mut counter: u64,
+        mut setting: u16,
         size: u64,
         offset: u64,
         value: u64,
-    ) -> Record
+    ) -> WriteWords
         requires { ⌜ Ranges (setupOf (self .setup)) × (first (writeChecks registersEnd size offset value) 0 ≡ 0) ⌝ }
-        ensures { λ r. ⌜ after r masks counters events ≡ writeAt (before self masks counters events) size offset value ⌝ }
+        ensures { λ r. ⌜ ((ms ns es : List ℕ) → WordsIn (state self ms ns es) value mask counter setting → wrote (setupOf (self .setup)) r ms ns es value ≡ writeAt (state self ms ns es) size offset value) ⌝ }
     {
         let setup = self.setup;
         match offset {
             24 => {
-                let done = write_alloc(setup, masks, self.block_mask, value);
+                let done = alloc_after(setup, self.block_mask, mask, value);
                 self.alloc_ctl = done.ctl;
-                self.block_mask = done.mask;
+                self.block_mask = done.operand;
+                mask = done.mask;
             }
             32 | 36 => {
                 let word = replaced(size, offset, self.block_mask, value);
                 self.block_mask = mask_of(setup, word);
             }
             8 => {
-                let old = Registers {
-                    ctl: self.mon_ctl,
-                    value: self.mon_ctr_val,
-                };
                 let status = capacity_status(setup.na, setup.nm, value);
-                let done = write_mon(setup.na, status, old, counters, events, value);
+                let done = mon_after(setup.na, status, self.mon_ctr_val, counter, setting, value);
                 self.mon_ctl = done.ctl;
                 self.mon_ctr_val = done.value;
+                counter = done.counter;
+                setting = done.setting;
             }
             _ => {}
         }
-        self
+        WriteWords {
+            record: self,
+            mask,
+            counter,
+            setting,
+        }
+    }
+
+    // A write in a state that passes checks 1 to 3, on the words that its value names.
+    pub fn write_words(
+        self,
+        mask: u64,
+        counter: u64,
+        setting: u16,
+        size: u64,
+        offset: u64,
+        value: u64,
+    ) -> Wrote
+        requires { ⌜ Ranges (setupOf (self .setup)) ⌝ }
+        ensures { λ r. ⌜ ((ms ns es : List ℕ) → Passed (state self ms ns es) → WordsIn (state self ms ns es) value mask counter setting
+            → outcome (ackOf (r .ack)) (wrote (setupOf (self .setup)) (r .left) ms ns es value) ≡ step (state self ms ns es) (write size offset value)) ⌝ }
+    {
+        match write_verdict(size, offset, value) {
+            Verdict::Failed(why) => Wrote {
+                ack: Ack::Refused(why),
+                left: WriteWords {
+                    record: self,
+                    mask,
+                    counter,
+                    setting,
+                },
+            },
+            Verdict::Passed => Wrote {
+                ack: Ack::Done,
+                left: self.store(mask, counter, setting, size, offset, value),
+            },
+        }
     }
 
     pub fn write(
-        mut self,
+        self,
         masks: &mut [u64],
         counters: &mut [u64],
         events: &mut [u16],
@@ -137,19 +184,25 @@ impl Record {
                 record: self,
                 ack: Ack::Refused(why),
             },
-            Verdict::Passed => match write_verdict(size, offset, value) {
-                Verdict::Failed(why) => Acked {
-                    record: self,
-                    ack: Ack::Refused(why),
-                },
-                Verdict::Passed => {
-                    let after = self.store(masks, counters, events, size, offset, value);
-                    Acked {
-                        record: after,
-                        ack: Ack::Done,
-                    }
-                }
-            },
+            Verdict::Passed => {
+                let p = named_pair(self.setup, value);
+                let i = named_mcid(value);
+                let wrote = self.write_words(
+                    word64(masks, p),
+                    word64(counters, i),
+                    word16(events, i),
+                    size,
+                    offset,
+                    value,
+                );
+                let left = wrote.left;
+                let ack = wrote.ack;
+                let record = left.record;
+                put64(masks, p, left.mask);
+                put64(counters, i, left.counter);
+                put16(events, i, left.setting);
+                Acked { record, ack }
+            }
         }
     }
 }

@@ -1,163 +1,166 @@
--- The calls on bytes: the model's step by the code's record and words, and the bytes that it leaves.
+-- A call on bytes: refused by checks 1 to 3, or answered by the model's step on the words that the bytes hold.
 use mathlib.Core.Path.{_≡_, refl, sym, ap, subst, _∙_}
-use mathlib.Core.Bool.{Bool, not, cond}
-use mathlib.Core.List.{List}
+use mathlib.Core.Bool.{Bool, true, false, not, cond}
+use mathlib.Core.List.{List, [], _∷_}
 use Prim.Native.Nat.{ℕ, _<_}
-use lib.Dec.{T, eqb, lit<}
-use lib.ListN.{length, getD}
-use Rattle.words.specs.Words.{wordsOf, bytesOfAll, withWord, Holds}
-use Rattle.words.proofs.Table.{bytes-words, below-all}
-use Rattle.words.proofs.Held.{length-table, put-held}
+use lib.Dec.{T, lit<}
+use lib.ListN.{getD, set}
+use Rattle.words.specs.Words.{wordsOf, bytesOfAll, withWord, tableOf}
 use Rattle.words.proofs.Held as words
-use Rattle.tables.proofs.Tests.{cases}
-use Rattle.runs.specs.Runs as runs
-use Rattle.access.specs.Checks.{first, setupChecks, checksOf}
-use Rattle.replies.specs.Replies as replies
-use Rattle.replies.specs.Replies.{reply}
+use Rattle.words.proofs.Held.{put-held}
+use Rattle.words.proofs.Parts.{table-held}
+use Rattle.access.specs.Checks.{first}
+use Rattle.access.specs.declared.Ack.{Ack}
+use Rattle.access.specs.declared.Ack.the-variants as ack
+use Rattle.access.specs.declared.Refusal.the-variants as why
+use Rattle.replies.specs.Replies.{reply, refusal}
 use Rattle.replies.proofs.Laws as laws
-use Rattle.replies.proofs.Laws.{told}
-use Rattle.capacity_model.specs.Rules.{Setup, setupOk}
-use Rattle.capacity_model.specs.Calls.{Call, reset, read, write, fill, evict, Answer, refused}
-use Rattle.capacity_model.specs.Claim.{isReset}
-use Rattle.capacity_model.specs.Facts.{Ranges}
-use Rattle.capacity_model.specs.Model.{State, Outcome, lengthsOk, checks, perform, refusal, step}
+use Rattle.monitor.specs.Monitor.{mcidOf}
 use Rattle.masks.specs.View.{setupOf}
-use Rattle.changes.proofs.Laws.{reply-none, registers-all, told-by}
+use Rattle.capacity_model.specs.Rules.{Setup, pairs}
+use Rattle.capacity_model.specs.Calls.{Call, reset, read, write, fill, evict, Answer, refused, done, value, allowed}
+use Rattle.capacity_model.specs.Claim.{isReset}
+use Rattle.capacity_model.specs.Facts.{Ranges, Sized}
+use Rattle.capacity_model.specs.Model.{State, Outcome, wellFormed, stateChecks, step}
+use Rattle.capacity_model.proofs.Setup.{ranges}
+use Rattle.capacity_model.proofs.Steps.{accepting}
 use Rattle.capacity.specs.declared.Record.{Record}
-use Rattle.capacity.specs.View.{state, outcome}
-use Rattle.capacity_bytes.specs.Bytes.{Lent, lent, recordOf, stateOf, bytesOf, Reply, replyTo, setupFor, byteRefusal, stepOn, stepBytes}
-use Rattle.capacity_bytes.specs.View.{wordsIn, Fits, Words}
-use Rattle.capacity_bytes.specs.declared.call.Call as code
-use Rattle.capacity_bytes.specs.declared.call.Call.the-variants as call
-use Rattle.capacity_bytes.specs.declared.call.Changes.{Changes}
-use Rattle.capacity_bytes.specs.Changes.{callOf, answerOf, withCounter, after, outcomeOf, valueOf, bytesAfter, replyOf}
+use Rattle.capacity.specs.declared.WriteWords.{WriteWords}
+use Rattle.capacity.specs.View.{state, outcome, ackOf}
+use Rattle.capacity.specs.Checked.{pairOf, wrote}
+use Rattle.capacity.proofs.Checks.{setup-passes, state-judged}
+use Rattle.capacity.proofs.Calls.{call-failed}
+use Rattle.capacity_bytes.specs.Bytes.{Lent, lent, stateOf, bytesOf, Reply, pointers, replyTo, setupFor, byteRefusal, stepBytes}
+use Rattle.capacity_bytes.specs.View.{numberIn, valuesIn, wordsIn, stateIn, HeldIn, Checked}
+use Rattle.capacity_bytes.specs.declared.check.Check.{Check}
+use Rattle.capacity_bytes.specs.declared.check.Check.the-variants as check
+use Rattle.capacity_bytes.proofs.Lengths.{in-range, long, words-sized}
 
--- ---- one call on bytes
-
-module _ (l : Lent) (c : Call) where
-  pub step-refused : (n : ℕ) → n ≡ byteRefusal (setupFor l c) l → (n ≡ 0 → ⊥) → reply n 0 l ≡ stepBytes l c
-  step-refused n e h = laws.step-refused step replyTo (λ k d. byteRefusal (setupFor k d) k) stateOf l c n e h
-
-  pub step-taken : (r : Reply) → byteRefusal (setupFor l c) l ≡ 0 → r ≡ stepOn l (stateOf l) c → r ≡ stepBytes l c
-  step-taken r z e = laws.step-taken step replyTo (λ k d. byteRefusal (setupFor k d) k) stateOf l c r z e
-
--- bytes that are the same, table by table
-pub same-bytes : {r M N E r′ M′ N′ E′ : List ℕ} → r ≡ r′ → M ≡ M′ → N ≡ N′ → E ≡ E′ → lent r M N E ≡ lent r′ M′ N′ E′
-same-bytes p q₁ q₂ q₃ = rw (p, q₁, q₂, q₃) refl
-
--- the bytes of what a call leaves
-pub left : (after : Record) (m n e r M N E : List ℕ) → r ≡ bytesOfAll 8 (wordsIn after) → M ≡ bytesOfAll 8 m → N ≡ bytesOfAll 8 n → E ≡ bytesOfAll 2 e
-    → lent r M N E ≡ bytesOf (state after m n e)
-unfolding bytesOf
-left after m n e r M N E p q₁ q₂ q₃ = same-bytes p q₁ q₂ q₃
-
--- ---- any call but a reset, on the words of the bytes
-
--- the state that the bytes hold
-state-held : (l : Lent) (held : Record) (m n e : List ℕ) → Words l m n e → wordsIn held ≡ wordsOf 8 9 (l .«record») → state held m n e ≡ stateOf l
-unfolding stateOf
-state-held l held m n e w h = rw (← h, ← w .masks .words-are, ← w .counters .words-are, ← w .events .words-are) refl
-
--- its set-up is in range
-pub ranges-held : (l : Lent) (held : Record) (m n e : List ℕ) → Words l m n e → wordsIn held ≡ wordsOf 8 9 (l .«record») → Ranges (stateOf l .setup)
-    → Ranges (setupOf (held .setup))
-ranges-held l held m n e w h r = subst (λ (s : State). Ranges (s .setup)) (sym (state-held l held m n e w h)) r
-
-module _ (l : Lent) (held : Record) (m n e : List ℕ) (w : Words l m n e) (h : wordsIn held ≡ wordsOf 8 9 (l .«record»)) (long : length (l .«record») ≡ 72)
-    (below : (i : ℕ) → getD (l .«record») i 0 < 256) where
-  -- its words
-  record-held : Holds 8 (l .«record») (wordsIn held)
-  record-held = words.held 8 (lit< tt) (l .«record») (wordsIn held) (wordsIn held) (sym long) below h
-
-  same : bytesOf (state held m n e) ≡ l
-  unfolding bytesOf
-  same = rw (← record-held .bytes-are, ← w .masks .bytes-are, ← w .counters .bytes-are, ← w .events .bytes-are) refl
-
-  counter-after : (mcid counter : ℕ) → lent (l .«record») (l .masks) (withWord 8 (l .counters) mcid counter) (l .events) ≡ bytesOf (withCounter (state held m n e) mcid counter)
-  unfolding bytesOf
-  counter-after mcid counter =
-      rw (← record-held .bytes-are, ← w .masks .bytes-are, ← w .events .bytes-are, put-held 8 (lit< tt) mcid counter (l .counters) n (w .counters)) refl
-
-  -- the bytes of the state after it
-  bytes-after : (call : Call) → T (not (isReset call)) → (d : Changes) → bytesAfter l call d ≡ bytesOf (after (state held m n e) call d)
-  unfolding bytesOf
-  bytes-after (reset su) t d = absurd t
-  bytes-after (read size offset) t d = sym same
-  bytes-after (write size offset v) t d =
-      rw (
-        record-held .bytes-are,
-        registers-all (wordsIn held) 5 (d .«mon_ctl») (d .«mon_ctr_val») (d .«alloc_ctl») (d .«block_mask»),
-        put-held 8 (lit< tt) (d .place) (d .word) (l .masks) m (w .masks),
-        put-held 8 (lit< tt) (d .mcid) (d .counter) (l .counters) n (w .counters),
-        put-held 2 (lit< tt) (d .mcid) (d .event) (l .events) e (w .events),
-      ) refl
-  bytes-after (fill rcid mcid at block) t d = counter-after (d .mcid) (d .counter)
-  bytes-after (evict rcid mcid at block) t d = counter-after (d .mcid) (d .counter)
-
-  told-after : (call : Call) → T (not (isReset call)) → (d : Changes) → reply 0 (valueOf call d) (bytesAfter l call d) ≡ replyTo l (answerOf call d) (after (state held m n e) call d)
-  told-after (reset su) t d = absurd t
-  told-after (read size offset) t d = ap (reply 0 (d .value)) (bytes-after (read size offset) t d)
-  told-after (write size offset v) t d = ap (reply 0 0) (bytes-after (write size offset v) t d)
-  told-after (fill rcid mcid at block) t d = ap (reply 0 (cond (d .allowed) 1 0)) (bytes-after (fill rcid mcid at block) t d)
-  told-after (evict rcid mcid at block) t d = ap (reply 0 0) (bytes-after (evict rcid mcid at block) t d)
-
-  pub on-bytes : (asked call : Call) → asked ≡ call → T (not (isReset call)) → (d : Changes) → outcomeOf (state held m n e) call d ≡ step (state held m n e) call
-      → replyOf l asked d ≡ stepOn l (stateOf l) asked
-  on-bytes asked call q t d p =
-      subst (λ (x : Call). replyOf l x d ≡ stepOn l (stateOf l) x) (sym q)
-      (told-by step replyTo refused l (state held m n e) call (d .number) (valueOf call d) _ (bytesAfter l call d) p (told-after call t d) refl
-      ∙ ap (λ (s : State). stepOn l s call) (state-held l held m n e w h))
-
--- ---- checks 1 and 2 first
-
-by-record : (l : Lent) (k : code.Call) → setupFor l (callOf k) ≡ stateOf l .setup
+-- every call but a reset goes by the record's set-up
+by-record : (l : Lent) (c : Call) → T (not (isReset c)) → setupFor l c ≡ stateOf l .setup
 unfolding setupFor
-by-record l (call.Read x) = refl
-by-record l (call.Write x) = refl
-by-record l (call.Fill x) = refl
-by-record l (call.Evict x) = refl
+by-record l (reset su) t = absurd t
+by-record l (read size offset) t = refl
+by-record l (write size offset v) t = refl
+by-record l (fill rcid mcid at block) t = refl
+by-record l (evict rcid mcid at block) t = refl
 
-module _ (l : Lent) (k : code.Call) where
-  pub perform-refused : (d : Changes) (n : ℕ) → d .number ≡ n → n ≡ byteRefusal (stateOf l .setup) l → (n ≡ 0 → ⊥) → replyOf l (callOf k) d ≡ stepBytes l (callOf k)
-  perform-refused d n e f h =
-      reply-none l n (d .number) _ _ e h
-      ∙ step-refused l (callOf k) n (f ∙ ap (λ (su : Setup). byteRefusal su l) (sym (by-record l k))) h
+-- ---- refused by checks 1 and 2
 
-  pub perform-taken : (r : Reply) → byteRefusal (stateOf l .setup) l ≡ 0 → r ≡ stepOn l (stateOf l) (callOf k) → r ≡ stepBytes l (callOf k)
-  perform-taken r z e = step-taken l (callOf k) r (ap (λ (su : Setup). byteRefusal su l) (by-record l k) ∙ z) e
+pub refused-12 : (l : Lent) (n : ℕ) → n ≡ byteRefusal (stateOf l .setup) l → (n ≡ 0 → ⊥) → (c : Call) → T (not (isReset c)) → refusal n (pointers c) l ≡ stepBytes l c
+refused-12 l n e h c t =
+    laws.step-refused step pointers replyTo (λ k d. byteRefusal (setupFor k d) k) stateOf l c n (e ∙ ap (λ (su : Setup). byteRefusal su l) (sym (by-record l c t))) h
 
--- ---- a reset goes by the lengths of the tables alone
+-- ---- the record that the bytes hold, after checks 1 and 2
 
-reset-any : (l : Lent) (su : Setup) (s s′ : State) → lengthsOk su s ≡ lengthsOk su s′ → stepOn l s (reset su) ≡ stepOn l s′ (reset su)
-unfolding replies.stepOn runs.step refusal checks checksOf perform
-reset-any l su s s′ h =
-    let k : ℕ = first (setupChecks (setupOk su) (lengthsOk su s′)) 0 in
-    let to : State → Bool → Reply = λ x b. replyTo l (cond b (perform x (reset su)) (runs.refuse refused x k) .answer) (cond b (perform x (reset su)) (runs.refuse refused x k) .state) in
-    rw h (cases (λ b. to s b ≡ to s′ b) (eqb k 0) (λ _. refl) (λ _. refl))
+-- a call that they do not refuse
+module _ (l : Lent) (r : Record) (same : stateIn l r ≡ stateOf l) (z : byteRefusal (stateOf l .setup) l ≡ 0) (c : Call) (t : T (not (isReset c))) where
+  taken : (o : Outcome) → o ≡ step (stateIn l r) c → (p : Reply) → p ≡ replyTo l (pointers c) (o .answer) (o .state) → p ≡ stepBytes l c
+  taken o e p q =
+      laws.step-taken step pointers replyTo (λ k d. byteRefusal (setupFor k d) k) stateOf l c p (ap (λ (su : Setup). byteRefusal su l) (by-record l c t) ∙ z)
+      (laws.answered step pointers replyTo l (stateOf l) c o (e ∙ ap (λ (s : State). step s c) same) p q)
 
-module _ (l : Lent) (held : Record) (m n e : List ℕ) (h : wordsIn held ≡ wordsOf 8 9 (l .«record»)) (f : Fits l m n e) (su : Setup)
-    (given : Answer) (s : State) (p : outcome given s ≡ step (state held m n e) (reset su)) where
-  on-room : (r : Reply) → r ≡ replyTo l given s → r ≡ stepOn l (stateOf l) (reset su)
-  unfolding stateOf lengthsOk
-  on-room r q =
-      told step replyTo l (state held m n e) (reset su) (outcome given s) p r q
-      ∙ reset-any l su (state held m n e) (stateOf l)
-      (rw (length-table 8 (lit< tt) m (l .masks) (f .masks-fit), length-table 8 (lit< tt) n (l .counters) (f .counters-fit), length-table 2 (lit< tt) e (l .events) (f .events-fit)) refl)
+module _ (l : Lent) (r : Record) (w : wordsIn r ≡ wordsOf 8 9 (l .«record»)) (z : byteRefusal (stateOf l .setup) l ≡ 0) where
+  abbrev su : Setup
+  su = setupOf (r .setup)
 
-  pub reset-refused : (k v : ℕ) → given ≡ refused v → k ≡ v → reply k 0 l ≡ stepOn l (stateOf l) (reset su)
-  reset-refused k v g i = on-room (reply k 0 l) (rw (g, i) refl)
+  state-held : stateIn l r ≡ stateOf l
+  unfolding stateOf
+  state-held = rw (← w) refl
 
-  pub reset-done : (answer : Answer) (l′ : Lent) → given ≡ answer → replyTo l answer s ≡ reply 0 0 (bytesOf s) → l′ ≡ bytesOf s → reply 0 0 l′ ≡ stepOn l (stateOf l) (reset su)
-  reset-done answer l′ g k i = on-room (reply 0 0 l′) (rw (g, k, i) refl)
+  held-none : byteRefusal su l ≡ 0
+  held-none = ap (λ (s : State). byteRefusal (s .setup) l) state-held ∙ z
 
--- ---- a read keeps the record
+  pub held-ranges : Ranges su
+  held-ranges = ranges su (in-range su l held-none)
 
-read-keeps : (s : State) (size offset : ℕ) → step s (read size offset) .state ≡ s
-unfolding perform
-read-keeps s size offset = laws.leaves refusal perform refused s (read size offset) refl
+  pub held-sized : Sized su (tableOf 8 (l .masks)) (tableOf 8 (l .counters)) (tableOf 2 (l .events))
+  held-sized = words-sized su l held-none
 
-pub record-kept : (bytes : List ℕ) (held after : Record) (m n e : List ℕ) (given : Answer) (size offset : ℕ) → length bytes ≡ 72 → ((i : ℕ) → getD bytes i 0 < 256)
-    → wordsIn held ≡ wordsOf 8 9 bytes → outcome given (state after m n e) ≡ step (state held m n e) (read size offset) → bytes ≡ bytesOfAll 8 (wordsIn after)
-record-kept bytes held after m n e given size offset long below h p =
-    let s : state after m n e ≡ state held m n e = ap (λ (o : Outcome). o .state) p ∙ read-keeps (state held m n e) size offset in
-    sym (ap (λ (x : State). bytesOfAll 8 (recordOf x)) s ∙ ap (bytesOfAll 8) h ∙ bytes-words 8 9 bytes long (below-all 256 bytes below))
+  -- check 3
+  module _ (b : Bool) (j : b ≡ wellFormed (stateIn l r)) where
+    judged : cond b 0 3 ≡ first (stateChecks (stateIn l r)) 0
+    judged = state-judged (stateIn l r) (setup-passes su (stateIn l r) (in-range su l held-none) held-sized) b j
+
+    pub judged-failed : b ≡ false → (c : Call) → T (not (isReset c)) → refusal 3 (pointers c) l ≡ stepBytes l c
+    judged-failed e c t =
+        taken l r state-held z c t (outcome (refused 3) (stateIn l r)) (call-failed (stateIn l r) c t why.State (ap (λ (x : Bool). cond x 0 3) (sym e) ∙ judged)) (refusal 3 (pointers c) l) refl
+
+    pub judged-passed : b ≡ true → ((i : ℕ) → getD (l .«record») i 0 < 256) → ((i : ℕ) → getD (l .masks) i 0 < 256) → ((i : ℕ) → getD (l .counters) i 0 < 256)
+        → ((i : ℕ) → getD (l .events) i 0 < 256) → HeldIn l r
+    judged-passed e lr lm lc le =
+        let g = long su l held-none in
+        record {
+          record-held = words.held 8 (lit< tt) (l .«record») (wordsIn r) (wordsIn r) (sym (g .record-long)) lr w;
+          masks-held = table-held 8 (pairs su) (l .masks) (lit< tt) (g .masks-long) lm;
+          counters-held = table-held 8 (su .nm) (l .counters) (lit< tt) (g .counters-long) lc;
+          events-held = table-held 2 (su .nm) (l .events) (lit< tt) (g .events-long) le;
+          state-is = state-held;
+          none = z;
+          passed = ap (λ (x : Bool). cond x 0 3) (sym e) ∙ judged;
+        }
+
+-- ---- a call in a state that passes checks 1 to 3
+
+module _ {l : Lent} {r : Record} (h : HeldIn l r) where
+  same-bytes : bytesOf (stateIn l r) ≡ l
+  unfolding bytesOf
+  same-bytes = rw (← h .record-held .bytes-are, ← h .masks-held .bytes-are, ← h .counters-held .bytes-are, ← h .events-held .bytes-are) refl
+
+  module _ (c : Call) (t : T (not (isReset c))) where
+    refused-keeps : (n : ℕ) (s : State) → outcome (refused n) s ≡ step (stateIn l r) c → s ≡ stateIn l r
+    refused-keeps n s e = ap (λ (o : Outcome). o .state) e ∙ laws.keeps accepting (stateIn l r) c n (sym (ap (λ (o : Outcome). o .answer) e))
+
+    reply-is : (a : Answer) (s : State) → outcome a s ≡ step (stateIn l r) c → (new : Lent) → new ≡ bytesOf s
+        → reply (numberIn a) (valuesIn (pointers c) a) new ≡ replyTo l (pointers c) a s
+    reply-is (refused n) s e new q = ap (λ (x : Lent). refusal n (pointers c) x) (q ∙ ap bytesOf (refused-keeps n s e) ∙ same-bytes)
+    reply-is done s e new q = ap (λ (x : Lent). reply 0 [] x) q
+    reply-is (value v) s e new q = ap (λ (x : Lent). reply 0 (v ∷ []) x) q
+    reply-is (allowed b) s e new q = ap (λ (x : Lent). reply 0 (cond b 1 0 ∷ []) x) q
+
+    -- the answer as numbers, and the bytes of the state that is left
+    pub answered : (a : Answer) (s : State) → outcome a s ≡ step (stateIn l r) c → (new : Lent) → new ≡ bytesOf s → (n : ℕ) (vs : List ℕ) → n ≡ numberIn a → vs ≡ valuesIn (pointers c) a
+        → reply n vs new ≡ stepBytes l c
+    answered a s e new q n vs k v = taken l r (h .state-is) (h .none) c t (outcome a s) e (reply n vs new) (rw (k, v) (reply-is a s e new q))
+
+  -- a read leaves the bytes
+  pub read-bytes : l ≡ bytesOf (stateIn l r)
+  read-bytes = sym same-bytes
+
+  -- a cache event stores a counter
+  pub counter-bytes : (mcid counter : ℕ) (N : List ℕ) → N ≡ withWord 8 (l .counters) mcid counter
+      → lent (l .«record») (l .masks) N (l .events) ≡ bytesOf (state r (tableOf 8 (l .masks)) (set (tableOf 8 (l .counters)) mcid counter) (tableOf 2 (l .events)))
+  unfolding bytesOf
+  counter-bytes mcid counter N q =
+      rw (q, put-held 8 (lit< tt) mcid counter (l .counters) (tableOf 8 (l .counters)) (h .counters-held), ← h .record-held .bytes-are, ← h .masks-held .bytes-are, ← h .events-held .bytes-are) refl
+
+  -- a write stores the record and the words that its value names
+  pub write-bytes : (su : Setup) (x : WriteWords) (v p i : ℕ) (R M N E : List ℕ) → p ≡ pairOf su v → i ≡ mcidOf v → R ≡ bytesOfAll 8 (wordsIn (x .«record»)) → M ≡ withWord 8 (l .masks) p (x .mask)
+      → N ≡ withWord 8 (l .counters) i (x .counter) → E ≡ withWord 2 (l .events) i (x .setting)
+      → lent R M N E ≡ bytesOf (wrote su x (tableOf 8 (l .masks)) (tableOf 8 (l .counters)) (tableOf 2 (l .events)) v)
+  unfolding bytesOf
+  write-bytes su x v p i R M N E a b q₁ q₂ q₃ q₄ =
+      rw (
+        q₁,
+        q₂,
+        q₃,
+        q₄,
+        a,
+        b,
+        put-held 8 (lit< tt) (pairOf su v) (x .mask) (l .masks) (tableOf 8 (l .masks)) (h .masks-held),
+        put-held 8 (lit< tt) (mcidOf v) (x .counter) (l .counters) (tableOf 8 (l .counters)) (h .counters-held),
+        put-held 2 (lit< tt) (mcidOf v) (x .setting) (l .events) (tableOf 2 (l .events)) (h .events-held),
+      ) refl
+
+-- a call without a pointer
+pub ack-none : (a : Ack) → [] ≡ valuesIn 0 (ackOf a)
+ack-none ack.Done = refl
+ack-none (ack.Refused why) = refl
+
+-- ---- what the checks found
+
+pub passed-of : (l : Lent) (k : Check) (r : Record) → Checked l k → k ≡ check.Passed r → HeldIn l r
+passed-of l k r x e = subst (Checked l) e x
+
+pub failed-of : (l : Lent) (k : Check) (n : ℕ) → Checked l k → k ≡ check.Failed n → (c : Call) → T (not (isReset c)) → refusal n (pointers c) l ≡ stepBytes l c
+failed-of l k n x e = subst (Checked l) e x

@@ -1,19 +1,18 @@
 -- Checks 1 and 2 on bytes, both ways.
 use mathlib.Core.Path.{_≡_, refl}
 use mathlib.Core.Bool.{true, false, cond}
-use Prim.Native.Nat.{ℕ, _*_, _/_, _≤_}
-use native.Mathlib.Nat.{mul-le-mul}
-use native.Mathlib.Omega.{arith}
+use Prim.Native.Nat.{_*_}
 use borrow.Author.Tests.{eq-eqb, ne-eqb}
-use lib.Dec.{T, eqb, eqb→eq}
+use lib.Dec.{T, eqb, eqb→eq, lit<}
 use lib.ListN.{length}
+use Rattle.words.specs.Words.{tableOf}
+use Rattle.words.proofs.Parts.{table-length}
 use Rattle.tables.proofs.Tests.{and-l, and-r}
 use Rattle.replies.proofs.Laws.{by-lengths, passed}
 use Rattle.capacity_model.specs.Rules.{Setup, setupOk, pairs}
-use Rattle.capacity_model.specs.Facts.{Ranges}
-use Rattle.capacity_model.proofs.Setup.{ranges}
+use Rattle.capacity_model.specs.Facts.{Sized}
 use Rattle.capacity_bytes.specs.Bytes.{Lent, recordLength, bytesFit, byteRefusal}
-use Rattle.capacity_bytes.specs.View.{Sized}
+use Rattle.capacity_bytes.specs.View.{Long}
 
 module _ (su : Setup) (l : Lent) where
   refusal-is : byteRefusal su l ≡ cond (eqb (length (l .«record»)) recordLength) (cond (setupOk su) (cond (bytesFit su l) 0 2) 1) 1
@@ -29,42 +28,24 @@ module _ (su : Setup) (l : Lent) where
   pub wrong-lengths : length (l .«record») ≡ 72 → setupOk su ≡ true → cond (bytesFit su l) 0 2 ≡ byteRefusal su l
   wrong-lengths e t = rw (refusal-is, eq-eqb (length (l .«record»)) 72 e, t) refl
 
--- the lengths of the tables
-record Long (su : Setup) (l : Lent) : Type 0 where
-  masks-long : length (l .masks) ≡ pairs su * 8
-  counters-long : length (l .counters) ≡ su .nm * 8
-  events-long : length (l .events) ≡ su .nm * 2
+  -- they pass
+  module _ (z : byteRefusal su l ≡ 0) where
+    pub in-range : T (setupOk su)
+    unfolding byteRefusal
+    in-range = passed (eqb (length (l .«record»)) recordLength) (setupOk su) (bytesFit su l) z .1 .0
 
-long : (su : Setup) (l : Lent) → T (bytesFit su l) → Long su l
-unfolding bytesFit
-long su l t = search (eqb→eq, and-l, and-r) depth 9
+    pub long : Long su l
+    unfolding byteRefusal bytesFit
+    long =
+        let p = passed (eqb (length (l .«record»)) recordLength) (setupOk su) (bytesFit su l) z in
+        let r = p .0 in
+        let t = p .1 .1 in
+        search (eqb→eq, and-l, and-r) depth 9
 
--- lengths that pass are those of some pairs and MCIDs
-pub sized : (su : Setup) (l : Lent) (n m : ℕ) → byteRefusal su l ≡ 0 → length (l .masks) / 8 ≤ n → length (l .events) / 2 ≤ m → Sized l n m
-unfolding byteRefusal
-sized su l n m z few fewer =
-    let p = passed (eqb (length (l .«record»)) recordLength) (setupOk su) (bytesFit su l) z in
-    let f = long su l (p .1 .1) in
-    record {
-      record-long = eqb→eq (length (l .«record»)) 72 (p .0);
-      masks-long = omega arith;
-      counters-long = omega arith;
-      events-long = omega arith;
-      few-pairs = few;
-      few-mcids = fewer;
+    -- and so do the words that the tables hold
+    pub words-sized : Sized su (tableOf 8 (l .masks)) (tableOf 8 (l .counters)) (tableOf 2 (l .events))
+    words-sized = record {
+      masks-long = table-length 8 (pairs su) (l .masks) (lit< tt) (long .masks-long);
+      counters-long = table-length 8 (su .nm) (l .counters) (lit< tt) (long .counters-long);
+      events-long = table-length 2 (su .nm) (l .events) (lit< tt) (long .events-long);
     }
-
--- of at most 2048 pairs and 256 MCIDs
-pub most-sized : (su : Setup) (l : Lent) → byteRefusal su l ≡ 0 → Sized l 2048 256
-unfolding pairs byteRefusal
-most-sized su l z =
-    let q = passed (eqb (length (l .«record»)) recordLength) (setupOk su) (bytesFit su l) z in
-    let f = long su l (q .1 .1) in
-    let r = ranges su (q .1 .0) in
-    let p = mul-le-mul (r .nr-high) (r .na-high) in
-    sized su l 2048 256 z (omega arith) (omega arith)
-
--- and the set-up is in range
-pub in-range : (su : Setup) (l : Lent) → byteRefusal su l ≡ 0 → Ranges su
-unfolding byteRefusal
-in-range su l z = ranges su (passed (eqb (length (l .«record»)) recordLength) (setupOk su) (bytesFit su l) z .1 .0)

@@ -1,4 +1,4 @@
--- The laws that other crates cite.
-pub mod Calls
+-- The laws that the proofs cite.
 pub mod Lengths
-pub mod Changes
+pub mod Calls
+pub mod Resets

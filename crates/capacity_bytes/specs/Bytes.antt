@@ -7,7 +7,7 @@ use lib.ListN.{length, getD}
 use Rattle.words.specs.Words.{wordsOf, bytesOfAll, tableOf}
 use Rattle.access.specs.Checks.{first}
 use Rattle.replies.specs.Replies as shared
-use Rattle.replies.specs.Replies.{reply, byteChecks}
+use Rattle.replies.specs.Replies.{reply, refusal, byteChecks}
 use Rattle.capacity_model.specs.Rules.{Setup, setupOk, pairs}
 use Rattle.capacity_model.specs.Calls.{Call, reset, read, write, fill, evict, Answer, refused, done, value, allowed}
 use Rattle.capacity_model.specs.Model.{State, step}
@@ -57,12 +57,20 @@ bytesOf s = lent (bytesOfAll 8 (recordOf s)) (bytesOfAll 8 (s .alloc .masks)) (b
 abbrev pub Reply : Type 0
 Reply = shared.Reply Lent
 
+-- a read and a fill have a pointer
+abbrev pub pointers : Call → ℕ
+pointers (reset su) = 0
+pointers (read size offset) = 1
+pointers (write size offset v) = 0
+pointers (fill rcid mcid at block) = 1
+pointers (evict rcid mcid at block) = 0
+
 -- a refusal gives its number and leaves the bytes; 0 for none, with the bytes of the state left; an allowance is 1 or 0
-abbrev pub replyTo : Lent → Answer → State → Reply
-replyTo l (refused n) s = reply n 0 l
-replyTo l done s = reply 0 0 (bytesOf s)
-replyTo l (value v) s = reply 0 v (bytesOf s)
-replyTo l (allowed b) s = reply 0 (cond b 1 0) (bytesOf s)
+abbrev pub replyTo : Lent → ℕ → Answer → State → Reply
+replyTo l p (refused n) s = refusal n p l
+replyTo l p done s = reply 0 [] (bytesOf s)
+replyTo l p (value v) s = reply 0 (v ∷ []) (bytesOf s)
+replyTo l p (allowed b) s = reply 0 (cond b 1 0 ∷ []) (bytesOf s)
 
 -- a reset goes by the set-up that it is given, any other call by the record's
 unfoldable pub setupFor : Lent → Call → Setup
@@ -80,10 +88,6 @@ bytesFit su l = eqb (length (l .masks)) (pairs su * 8) && eqb (length (l .counte
 unfoldable pub byteRefusal : Setup → Lent → ℕ
 byteRefusal su l = first (byteChecks (eqb (length (l .«record»)) recordLength) (setupOk su) (bytesFit su l)) 0
 
--- the model's step on a state, told to a caller who lent the bytes l
-abbrev pub stepOn : Lent → State → Call → Reply
-stepOn l s c = shared.stepOn step replyTo l s c
-
 -- one call on bytes
 abbrev pub stepBytes : Lent → Call → Reply
-stepBytes l c = shared.stepLent step replyTo (λ k d. byteRefusal (setupFor k d) k) stateOf l c
+stepBytes l c = shared.stepLent step pointers replyTo (λ k d. byteRefusal (setupFor k d) k) stateOf l c

@@ -1,67 +1,82 @@
-// Cache events, by the tables' words.
-use crate::call::Changes;
-use crate::call::unchanged;
-use access::Ack;
-use capacity::Filling;
-use capacity::Record;
-use replies::refusal_number;
-use tables::word64;
+// Cache events.
+use crate::answer::Answered;
+use crate::answer::ack_number;
+use crate::answer::filling_numbers;
+use crate::check::Check;
+use crate::check::checked;
+use words::put64;
+use words::word16;
+use words::word64;
 ghost use mathlib.Core.Path.{_≡_};
+ghost use mathlib.Core.List.{[], _∷_};
+ghost use Rattle.replies.specs.Replies.{reply};
 ghost use Rattle.capacity_model.specs.Calls.{fill, evict};
-ghost use Rattle.capacity_model.specs.Model.{step};
-ghost use Rattle.capacity.specs.View.{state};
-ghost use Rattle.capacity_bytes.specs.Changes.{outcomeOf};
+ghost use Rattle.capacity_bytes.specs.Bytes.{stepBytes};
+ghost use Rattle.capacity_bytes.specs.View.{before, after};
 
-// A cache event that leaves this counter.
-fn counted(allowed: bool, mcid: u64, counter: u64) -> Changes
-    ensures { λ r. ⌜ (r .number ≡ 0) × (r .allowed ≡ allowed) × (r .mcid ≡ mcid) × (r .counter ≡ counter) ⌝ }
-{
-    let mut did = unchanged(0, 0);
-    did.allowed = allowed;
-    did.mcid = mcid as usize;
-    did.counter = counter;
-    did
-}
-
-pub fn fill_on(
-    record: Record,
-    m: &[u64],
-    n: &mut [u64],
-    e: &[u16],
+pub fn fill(
+    record: &[u8],
+    masks: &[u8],
+    counters: &mut [u8],
+    events: &[u8],
     rcid: u64,
     mcid: u64,
     at: u64,
     block: u64,
-) -> Changes
-    ensures { λ r. ⌜ outcomeOf (state «record» (now (m .entry)) (now (n .entry)) (now (e .entry))) (fill rcid mcid at block) r
-        ≡ step (state «record» (now (m .entry)) (now (n .entry)) (now (e .entry))) (fill rcid mcid at block) ⌝ }
+) -> Answered
+    ensures { λ r. ⌜ reply (r .number) (r .value ∷ []) (after «record» masks counters events) ≡ stepBytes (before «record» masks counters events) (fill rcid mcid at block) ⌝ }
 {
-    let filled = record.fill(m, n, e, rcid, mcid, at, block);
-    let filling = filled.filling;
-    match filling {
-        Filling::Refused(why) => unchanged(refusal_number(why), 0),
-        Filling::Allowed => counted(true, mcid, word64(n, mcid as usize)),
-        Filling::NotAllowed => counted(false, mcid, word64(n, mcid as usize)),
+    match checked(record, masks, counters, events) {
+        Check::Failed(why) => Answered {
+            number: why,
+            value: 0,
+        },
+        Check::Passed(held) => {
+            let mask = word64(masks, held.setup.pair_at(rcid, at));
+            let i = mcid as usize;
+            let filled = held.fill_words(
+                mask,
+                word64(counters, i),
+                word16(events, i),
+                rcid,
+                mcid,
+                at,
+                block,
+            );
+            put64(counters, i, filled.counter);
+            let filling = filled.filling;
+            filling_numbers(filling)
+        }
     }
 }
 
-pub fn evict_on(
-    record: Record,
-    m: &[u64],
-    n: &mut [u64],
-    e: &[u16],
+pub fn evict(
+    record: &[u8],
+    masks: &[u8],
+    counters: &mut [u8],
+    events: &[u8],
     rcid: u64,
     mcid: u64,
     at: u64,
     block: u64,
-) -> Changes
-    ensures { λ r. ⌜ outcomeOf (state «record» (now (m .entry)) (now (n .entry)) (now (e .entry))) (evict rcid mcid at block) r
-        ≡ step (state «record» (now (m .entry)) (now (n .entry)) (now (e .entry))) (evict rcid mcid at block) ⌝ }
+) -> u64
+    ensures { λ r. ⌜ reply r [] (after «record» masks counters events) ≡ stepBytes (before «record» masks counters events) (evict rcid mcid at block) ⌝ }
 {
-    let acked = record.evict(m, n, e, rcid, mcid, at, block);
-    let ack = acked.ack;
-    match ack {
-        Ack::Refused(why) => unchanged(refusal_number(why), 0),
-        Ack::Done => counted(false, mcid, word64(n, mcid as usize)),
+    match checked(record, masks, counters, events) {
+        Check::Failed(why) => why,
+        Check::Passed(held) => {
+            let i = mcid as usize;
+            let evicted = held.evict_words(
+                word64(counters, i),
+                word16(events, i),
+                rcid,
+                mcid,
+                at,
+                block,
+            );
+            put64(counters, i, evicted.counter);
+            let ack = evicted.ack;
+            ack_number(ack)
+        }
     }
 }

@@ -1,9 +1,14 @@
-// The capacity controller's record and tables as bytes, and calls on them with room for the tables' words.
-pub mod blocks;
-pub mod call;
-pub mod lent;
-pub mod perform;
-pub mod read;
-pub mod record;
+// The capacity controller where C lends record and tables as little-endian bytes: a call loads the words that it names, does with them what `capacity` does, and stores them.
+mod answer;
+mod blocks;
+mod check;
+mod lent;
+mod record;
+mod registers;
 pub mod reset;
-pub mod write;
+
+pub use answer::Answered;
+pub use blocks::evict;
+pub use blocks::fill;
+pub use registers::read;
+pub use registers::write;

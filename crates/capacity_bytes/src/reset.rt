@@ -1,44 +1,59 @@
-// Resets on bytes.
-use crate::record::load_record;
+// Resets.
+use crate::lent::byte_refusal;
 use crate::record::store_record;
-use access::Ack;
+use capacity::Record;
 use masks::Setup;
-use replies::refusal_number;
-use words::encode16;
+use masks::all_blocks;
+use words::clear8;
 use words::encode64;
 ghost use mathlib.Core.Path.{_≡_};
-ghost use Rattle.capacity_model.specs.Calls.{reset};
+ghost use mathlib.Core.List.{[]};
+ghost use Prim.Native.Nat.{_*_};
+ghost use lib.ListN.{length};
+ghost use Rattle.words.specs.Words.{bytesOfAll};
 ghost use Rattle.replies.specs.Replies.{reply};
-ghost use Rattle.capacity_bytes.specs.Bytes.{lent, stateOf, stepOn};
-ghost use Rattle.capacity_bytes.specs.View.{Fits};
+ghost use Rattle.capacity_model.specs.Calls.{reset};
+ghost use Rattle.capacity_model.specs.Facts.{Ranges};
+ghost use Rattle.capacity_model.specs.Rules.{pairs, resetMasks};
 ghost use Rattle.masks.specs.View.{setupOf};
+ghost use Rattle.capacity_bytes.specs.Bytes.{stepBytes};
+ghost use Rattle.capacity_bytes.specs.View.{before, after};
 
-// With room m, n and e for the tables' words. A reset reads no table, so none is decoded.
-pub fn reset_in(
+// The masks of a reset: every block for each AT of RCID 0, and else none.
+fn reset_masks(setup: Setup, masks: &mut [u8])
+    requires { ⌜ Ranges (setupOf setup) × (length (now masks) ≡ pairs (setupOf setup) * 8) ⌝ }
+    ensures { λ r. ⌜ now (masks .exit) ≡ bytesOfAll 8 (resetMasks (setupOf setup)) ⌝ }
+{
+    let na = setup.na as usize;
+    let end = na * 8;
+    let row = [all_blocks(setup); 8];
+    clear8(masks);
+    encode64(&row[..na], &mut masks[..end]);
+}
+
+pub fn reset(
+    setup: Setup,
     record: &mut [u8],
     masks: &mut [u8],
     counters: &mut [u8],
     events: &mut [u8],
-    m: &mut [u64],
-    n: &mut [u64],
-    e: &mut [u16],
-    setup: Setup,
 ) -> u64
-    requires { ⌜ Fits (lent (now «record») (now masks) (now counters) (now events)) (now m) (now n) (now e) ⌝ }
-    ensures { λ r. ⌜ reply r 0 (lent (now («record» .exit)) (now (masks .exit)) (now (counters .exit)) (now (events .exit)))
-        ≡ stepOn (lent (now («record» .entry)) (now (masks .entry)) (now (counters .entry)) (now (events .entry))) (stateOf (lent (now («record» .entry)) (now (masks .entry)) (now (counters .entry)) (now (events .entry)))) (reset (setupOf setup)) ⌝ }
+    ensures { λ r. ⌜ reply r [] (after «record» masks counters events) ≡ stepBytes (before «record» masks counters events) (reset (setupOf setup)) ⌝ }
 {
-    let acked = load_record(record).reset(m, n, e, setup);
-    let after = acked.record;
-    let ack = acked.ack;
-    match ack {
-        Ack::Refused(why) => refusal_number(why),
-        Ack::Done => {
-            store_record(after, record);
-            encode64(m, masks);
-            encode64(n, counters);
-            encode16(e, events);
-            0
-        }
+    let why = byte_refusal(setup, record, masks, counters, events);
+    if why != 0 {
+        return why;
     }
+    let fresh = Record {
+        setup,
+        mon_ctl: 0,
+        mon_ctr_val: 0,
+        alloc_ctl: 0,
+        block_mask: 0,
+    };
+    store_record(fresh, record);
+    reset_masks(setup, masks);
+    clear8(counters);
+    clear8(events);
+    0
 }

@@ -1,20 +1,11 @@
 // The bandwidth controller's functions for C, on bytes.
-use bandwidth_bytes::call::Ask;
-use bandwidth_bytes::call::Call;
-use bandwidth_room::perform::perform;
-use bandwidth_room::reset::reset_bytes;
-use changes::Access;
-use changes::Store;
-use changes::put_registers;
-use words::clear8;
-use words::copy8;
-use words::put16;
-use words::put32;
-use words::put64;
+use setup::Setup;
 ghost use mathlib.Core.Path.{_≡_};
+ghost use mathlib.Core.List.{[], _∷_};
 ghost use Rattle.bandwidth_model.specs.Calls.{reset, read, write, request, endWindow};
 ghost use Rattle.replies.specs.Replies.{reply};
-ghost use Rattle.bandwidth_bytes.specs.Bytes.{lent, setupBy, stepBytes};
+ghost use Rattle.bandwidth_bytes.specs.Bytes.{setupBy, stepBytes};
+ghost use Rattle.bandwidth_bytes.specs.View.{before, after};
 
 #[no_mangle]
 pub extern "C" fn cbqri_bandwidth_reset(
@@ -32,10 +23,10 @@ pub extern "C" fn cbqri_bandwidth_reset(
     counters: &mut [u8],
     events: &mut [u8],
 ) -> u64
-    ensures { λ r. ⌜ reply r 0 (lent (now («record» .exit)) (now (active .exit)) (now (configured .exit)) (now (used .exit)) (now (counters .exit)) (now (events .exit)))
-        ≡ stepBytes (lent (now («record» .entry)) (now (active .entry)) (now (configured .entry)) (now (used .entry)) (now (counters .entry)) (now (events .entry))) (reset (setupBy nbwblks mrbwb nr na nm q w)) ⌝ }
+    ensures { λ r. ⌜ reply r [] (after «record» active configured used counters events)
+        ≡ stepBytes (before «record» active configured used counters events) (reset (setupBy nbwblks mrbwb nr na nm q w)) ⌝ }
 {
-    reset_bytes(
+    let setup = Setup {
         nbwblks,
         mrbwb,
         nr,
@@ -43,13 +34,8 @@ pub extern "C" fn cbqri_bandwidth_reset(
         nm,
         q,
         w,
-        record,
-        active,
-        configured,
-        used,
-        counters,
-        events,
-    )
+    };
+    bandwidth_bytes::reset::reset(record, active, configured, used, counters, events, setup)
 }
 
 #[no_mangle]
@@ -64,24 +50,21 @@ pub extern "C" fn cbqri_bandwidth_read(
     offset: u64,
     value: &mut u64,
 ) -> u64
-    ensures { λ r. ⌜ reply r (now (value .exit)) (lent (now («record» .entry)) (now (active .entry)) (now (configured .entry)) (now (used .entry)) (now (counters .entry)) (now (events .entry)))
-        ≡ stepBytes (lent (now («record» .entry)) (now (active .entry)) (now (configured .entry)) (now (used .entry)) (now (counters .entry)) (now (events .entry))) (read size offset) ⌝ }
+    ensures { λ r. ⌜ reply r (now (value .exit) ∷ []) (after «record» active configured used counters events)
+        ≡ stepBytes (before «record» active configured used counters events) (read size offset) ⌝ }
 {
-    *value = 0;
-    let did = perform(
+    let answer = bandwidth_bytes::read::read(
         record,
         active,
         configured,
         used,
         counters,
         events,
-        Call::Read(Access { size, offset }),
+        size,
+        offset,
     );
-    if did.number != 0 {
-        return did.number;
-    }
-    *value = did.value;
-    0
+    *value = answer.value;
+    answer.number
 }
 
 #[no_mangle]
@@ -96,37 +79,20 @@ pub extern "C" fn cbqri_bandwidth_write(
     offset: u64,
     value: u64,
 ) -> u64
-    ensures { λ r. ⌜ reply r 0 (lent (now («record» .exit)) (now (active .entry)) (now (configured .exit)) (now (used .entry)) (now (counters .exit)) (now (events .exit)))
-        ≡ stepBytes (lent (now («record» .entry)) (now (active .entry)) (now (configured .entry)) (now (used .entry)) (now (counters .entry)) (now (events .entry))) (write size offset value) ⌝ }
+    ensures { λ r. ⌜ reply r [] (after «record» active configured used counters events)
+        ≡ stepBytes (before «record» active configured used counters events) (write size offset value) ⌝ }
 {
-    let did = perform(
+    bandwidth_bytes::write::write(
         record,
         active,
         configured,
         used,
         counters,
         events,
-        Call::Write(Store {
-            size,
-            offset,
-            value,
-        }),
-    );
-    if did.number != 0 {
-        return did.number;
-    }
-    put_registers(
-        record,
-        7,
-        did.mon_ctl,
-        did.mon_ctr_val,
-        did.alloc_ctl,
-        did.bw_alloc,
-    );
-    put32(configured, did.place, did.word as u64);
-    put64(counters, did.mcid, did.counter);
-    put16(events, did.mcid, did.event as u64);
-    0
+        size,
+        offset,
+        value,
+    )
 }
 
 #[no_mangle]
@@ -144,33 +110,24 @@ pub extern "C" fn cbqri_bandwidth_request(
     bytes: u32,
     granted: &mut u64,
 ) -> u64
-    ensures { λ r. ⌜ reply r (now (granted .exit)) (lent (now («record» .exit)) (now (active .entry)) (now (configured .entry)) (now (used .exit)) (now (counters .exit)) (now (events .entry)))
-        ≡ stepBytes (lent (now («record» .entry)) (now (active .entry)) (now (configured .entry)) (now (used .entry)) (now (counters .entry)) (now (events .entry))) (request rcid mcid at kind bytes) ⌝ }
+    ensures { λ r. ⌜ reply r (now (granted .exit) ∷ []) (after «record» active configured used counters events)
+        ≡ stepBytes (before «record» active configured used counters events) (request rcid mcid at kind bytes) ⌝ }
 {
-    *granted = 0;
-    let did = perform(
+    let answer = bandwidth_bytes::request::request(
         record,
         active,
         configured,
         used,
         counters,
         events,
-        Call::Request(Ask {
-            rcid,
-            mcid,
-            at,
-            kind,
-            bytes,
-        }),
+        rcid,
+        mcid,
+        at,
+        kind,
+        bytes,
     );
-    if did.number != 0 {
-        return did.number;
-    }
-    put64(record, 11, did.pool);
-    put32(used, did.place, did.word as u64);
-    put64(counters, did.mcid, did.counter);
-    *granted = did.value;
-    0
+    *granted = answer.value;
+    answer.number
 }
 
 #[no_mangle]
@@ -182,23 +139,8 @@ pub extern "C" fn cbqri_bandwidth_end_window(
     counters: &[u8],
     events: &[u8],
 ) -> u64
-    ensures { λ r. ⌜ reply r 0 (lent (now («record» .exit)) (now (active .exit)) (now (configured .entry)) (now (used .exit)) (now (counters .entry)) (now (events .entry)))
-        ≡ stepBytes (lent (now («record» .entry)) (now (active .entry)) (now (configured .entry)) (now (used .entry)) (now (counters .entry)) (now (events .entry))) endWindow ⌝ }
+    ensures { λ r. ⌜ reply r [] (after «record» active configured used counters events)
+        ≡ stepBytes (before «record» active configured used counters events) endWindow ⌝ }
 {
-    let did = perform(
-        record,
-        active,
-        configured,
-        used,
-        counters,
-        events,
-        Call::EndWindow,
-    );
-    if did.number != 0 {
-        return did.number;
-    }
-    put64(record, 11, 0);
-    copy8(active, configured);
-    clear8(used);
-    0
+    bandwidth_bytes::window::end_window(record, active, configured, used, counters, events)
 }

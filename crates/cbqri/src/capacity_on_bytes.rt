@@ -1,18 +1,11 @@
 // The capacity controller's functions for C, on bytes.
-use capacity_bytes::call::Block;
-use capacity_bytes::call::Call;
-use capacity_room::perform::perform;
-use capacity_room::reset::reset_bytes;
-use changes::Access;
-use changes::Store;
-use changes::put_registers;
-use tables::pick;
-use words::put16;
-use words::put64;
+use masks::Setup;
 ghost use mathlib.Core.Path.{_≡_};
+ghost use mathlib.Core.List.{[], _∷_};
 ghost use Rattle.capacity_model.specs.Calls.{reset, read, write, fill, evict};
 ghost use Rattle.replies.specs.Replies.{reply};
-ghost use Rattle.capacity_bytes.specs.Bytes.{lent, setupBy, stepBytes};
+ghost use Rattle.capacity_bytes.specs.Bytes.{setupBy, stepBytes};
+ghost use Rattle.capacity_bytes.specs.View.{before, after};
 
 #[no_mangle]
 pub extern "C" fn cbqri_capacity_reset(
@@ -26,10 +19,16 @@ pub extern "C" fn cbqri_capacity_reset(
     counters: &mut [u8],
     events: &mut [u8],
 ) -> u64
-    ensures { λ r. ⌜ reply r 0 (lent (now («record» .exit)) (now (masks .exit)) (now (counters .exit)) (now (events .exit)))
-        ≡ stepBytes (lent (now («record» .entry)) (now (masks .entry)) (now (counters .entry)) (now (events .entry))) (reset (setupBy ncblks nr na nm w)) ⌝ }
+    ensures { λ r. ⌜ reply r [] (after «record» masks counters events) ≡ stepBytes (before «record» masks counters events) (reset (setupBy ncblks nr na nm w)) ⌝ }
 {
-    reset_bytes(ncblks, nr, na, nm, w, record, masks, counters, events)
+    let setup = Setup {
+        ncblks,
+        nr,
+        na,
+        nm,
+        w,
+    };
+    capacity_bytes::reset::reset(setup, record, masks, counters, events)
 }
 
 #[no_mangle]
@@ -42,22 +41,11 @@ pub extern "C" fn cbqri_capacity_read(
     offset: u64,
     value: &mut u64,
 ) -> u64
-    ensures { λ r. ⌜ reply r (now (value .exit)) (lent (now («record» .entry)) (now (masks .entry)) (now (counters .entry)) (now (events .entry)))
-        ≡ stepBytes (lent (now («record» .entry)) (now (masks .entry)) (now (counters .entry)) (now (events .entry))) (read size offset) ⌝ }
+    ensures { λ r. ⌜ reply r (now (value .exit) ∷ []) (after «record» masks counters events) ≡ stepBytes (before «record» masks counters events) (read size offset) ⌝ }
 {
-    *value = 0;
-    let did = perform(
-        record,
-        masks,
-        counters,
-        events,
-        Call::Read(Access { size, offset }),
-    );
-    if did.number != 0 {
-        return did.number;
-    }
-    *value = did.value;
-    0
+    let answered = capacity_bytes::read(record, masks, counters, events, size, offset);
+    *value = answered.value;
+    answered.number
 }
 
 #[no_mangle]
@@ -70,35 +58,9 @@ pub extern "C" fn cbqri_capacity_write(
     offset: u64,
     value: u64,
 ) -> u64
-    ensures { λ r. ⌜ reply r 0 (lent (now («record» .exit)) (now (masks .exit)) (now (counters .exit)) (now (events .exit)))
-        ≡ stepBytes (lent (now («record» .entry)) (now (masks .entry)) (now (counters .entry)) (now (events .entry))) (write size offset value) ⌝ }
+    ensures { λ r. ⌜ reply r [] (after «record» masks counters events) ≡ stepBytes (before «record» masks counters events) (write size offset value) ⌝ }
 {
-    let did = perform(
-        record,
-        masks,
-        counters,
-        events,
-        Call::Write(Store {
-            size,
-            offset,
-            value,
-        }),
-    );
-    if did.number != 0 {
-        return did.number;
-    }
-    put_registers(
-        record,
-        5,
-        did.mon_ctl,
-        did.mon_ctr_val,
-        did.alloc_ctl,
-        did.block_mask,
-    );
-    put64(masks, did.place, did.word);
-    put64(counters, did.mcid, did.counter);
-    put16(events, did.mcid, did.event as u64);
-    0
+    capacity_bytes::write(record, masks, counters, events, size, offset, value)
 }
 
 #[no_mangle]
@@ -113,28 +75,11 @@ pub extern "C" fn cbqri_capacity_fill(
     block: u64,
     allowed: &mut u64,
 ) -> u64
-    ensures { λ r. ⌜ reply r (now (allowed .exit)) (lent (now («record» .exit)) (now (masks .entry)) (now (counters .exit)) (now (events .entry)))
-        ≡ stepBytes (lent (now («record» .entry)) (now (masks .entry)) (now (counters .entry)) (now (events .entry))) (fill rcid mcid at block) ⌝ }
+    ensures { λ r. ⌜ reply r (now (allowed .exit) ∷ []) (after «record» masks counters events) ≡ stepBytes (before «record» masks counters events) (fill rcid mcid at block) ⌝ }
 {
-    *allowed = 0;
-    let did = perform(
-        record,
-        masks,
-        counters,
-        events,
-        Call::Fill(Block {
-            rcid,
-            mcid,
-            at,
-            block,
-        }),
-    );
-    if did.number != 0 {
-        return did.number;
-    }
-    put64(counters, did.mcid, did.counter);
-    *allowed = pick(did.allowed, 1, 0);
-    0
+    let answered = capacity_bytes::fill(record, masks, counters, events, rcid, mcid, at, block);
+    *allowed = answered.value;
+    answered.number
 }
 
 #[no_mangle]
@@ -148,24 +93,7 @@ pub extern "C" fn cbqri_capacity_evict(
     at: u64,
     block: u64,
 ) -> u64
-    ensures { λ r. ⌜ reply r 0 (lent (now («record» .exit)) (now (masks .entry)) (now (counters .exit)) (now (events .entry)))
-        ≡ stepBytes (lent (now («record» .entry)) (now (masks .entry)) (now (counters .entry)) (now (events .entry))) (evict rcid mcid at block) ⌝ }
+    ensures { λ r. ⌜ reply r [] (after «record» masks counters events) ≡ stepBytes (before «record» masks counters events) (evict rcid mcid at block) ⌝ }
 {
-    let did = perform(
-        record,
-        masks,
-        counters,
-        events,
-        Call::Evict(Block {
-            rcid,
-            mcid,
-            at,
-            block,
-        }),
-    );
-    if did.number != 0 {
-        return did.number;
-    }
-    put64(counters, did.mcid, did.counter);
-    0
+    capacity_bytes::evict(record, masks, counters, events, rcid, mcid, at, block)
 }

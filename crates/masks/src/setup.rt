@@ -1,6 +1,10 @@
 // The set-up of a capacity controller.
+use access::known_at;
+use access::place;
 ghost use mathlib.Core.Path.{_≡_};
+ghost use Prim.Native.Nat.{_<_};
 ghost use Rattle.tables.specs.Below.{Small};
+ghost use Rattle.access.specs.Pairs.{pair, knownAt};
 ghost use Rattle.capacity_model.specs.Rules.{setupOk, pairs};
 ghost use Rattle.capacity_model.specs.Facts.{Ranges};
 ghost use Rattle.masks.specs.View.{setupOf};
@@ -33,5 +37,17 @@ impl Setup {
         ensures { λ r. ⌜ Small (pairs (setupOf self)) 2048 r ⌝ }
     {
         self.nr * self.na
+    }
+
+    // The place of a pair in the table; 0 where there is no such RCID.
+    pub fn pair_at(self, rcid: u64, at: u64) -> usize
+        requires { ⌜ Ranges (setupOf self) ⌝ }
+        ensures { λ r. ⌜ (rcid < self .nr → r ≡ pair (self .na) rcid (knownAt (self .na) at)) ⌝ }
+    {
+        if rcid < self.nr {
+            place(self.na, rcid, known_at(self.na, at))
+        } else {
+            0
+        }
     }
 }

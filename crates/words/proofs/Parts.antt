@@ -49,7 +49,7 @@ module _ (k m : ℕ) (ws : List ℕ) (h : m ≤ length ws) where
   bytes-take : take (m * k) (bytesOfAll k ws) ≡ bytesOfAll k (take m ws)
   bytes-take = rw (split, take-at _ _ (m * k) before)
 
-  bytes-drop : drop (m * k) (bytesOfAll k ws) ≡ bytesOfAll k (drop m ws)
+  pub bytes-drop : drop (m * k) (bytesOfAll k ws) ≡ bytesOfAll k (drop m ws)
   bytes-drop = rw (split, drop-at _ _ (m * k) before)
 
 part-bytes : (k from n : ℕ) (bs ws new : List ℕ) → from + n ≤ length ws → bs ≡ bytesOfAll k ws

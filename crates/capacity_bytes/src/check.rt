@@ -1,0 +1,50 @@
+// Checks 1 to 3.
+use crate::lent::record_refusal;
+use crate::record::load_record;
+use capacity::LAST_EVENT;
+use capacity::Record;
+use masks::union_ok;
+use monitor_bytes::capacity_counters_ok;
+use monitor_bytes::events_ok;
+use words::union64;
+ghost use mathlib.Core.Path.{_≡_};
+ghost use Rattle.words.specs.Words.{tableOf};
+ghost use Rattle.capacity_model.specs.Facts.{Ranges, Sized};
+ghost use Rattle.capacity_model.specs.Model.{wellFormed};
+ghost use Rattle.masks.specs.View.{setupOf};
+ghost use Rattle.capacity.specs.View.{state};
+ghost use Rattle.capacity_bytes.specs.View.{before, Checked};
+
+// Check 3.
+fn well_formed(held: Record, masks: &[u8], counters: &[u8], events: &[u8]) -> bool
+    requires { ⌜ Ranges (setupOf (held .setup)) × Sized (setupOf (held .setup)) (tableOf 8 (now masks)) (tableOf 8 (now counters)) (tableOf 2 (now events)) ⌝ }
+    ensures { λ r. ⌜ r ≡ wellFormed (state held (tableOf 8 (now (masks .entry))) (tableOf 8 (now (counters .entry))) (tableOf 2 (now (events .entry)))) ⌝ }
+{
+    let setup = held.setup;
+    held.judge(
+        union_ok(setup, union64(masks)),
+        capacity_counters_ok(counters, setup.w as u32),
+        events_ok(events, setup.na as u16, LAST_EVENT),
+    )
+}
+
+// The record, or the refusal's number.
+pub enum Check {
+    Passed(Record),
+    Failed(u64),
+}
+
+pub fn checked(record: &[u8], masks: &[u8], counters: &[u8], events: &[u8]) -> Check
+    ensures { λ r. ⌜ Checked (before «record» masks counters events) r ⌝ }
+{
+    let why = record_refusal(record, masks, counters, events);
+    if why != 0 {
+        return Check::Failed(why);
+    }
+    let held = load_record(record);
+    if well_formed(held, masks, counters, events) {
+        Check::Passed(held)
+    } else {
+        Check::Failed(3)
+    }
+}

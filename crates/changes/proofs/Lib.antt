@@ -1,3 +1,0 @@
--- The laws that other crates cite.
-pub mod Laws
-pub mod Places

@@ -1,0 +1,14 @@
+-- `masks::named_pair` meets its contract.
+use borrow.Author.Needs.{needs}
+use mathlib.Core.Path.{refl}
+use Rattle.masks.proofs.named_pair.Statement.{statement}
+use Rattle.masks.proofs.named_pair.Tie as tie
+
+place-requires : tie.Need-place-requires
+place-requires c κs = (c .before .pre .na-high, (c .held-fields .ensures .rcid-low, c .held-fields .ensures .at-low))
+
+returns : tie.Need-returns
+returns c = rw (c .place .ensures, c .before .held-fields .ensures .rcid-is, c .before .held-fields .ensures .at-is) refl
+
+pub named-pair-spec : {M : Type 1} → statement M
+named-pair-spec = tie.close (tie.spec (λ c κs. search needs) place-requires returns)
