@@ -1,5 +1,5 @@
 # The lines '# make NAME: ..' are what make help prints.
-.PHONY: help quick test run soak bench firmware firmware-run dist fmt clean
+.PHONY: help quick test run soak bench firmware firmware-run firmware-count dist fmt clean
 
 # make help: this list
 help:
@@ -43,6 +43,10 @@ firmware:
 # make firmware-run: the example emulator in C on qemu's bare RISC-V board
 firmware-run:
 	@$(MAKE) --no-print-directory -C firmware run
+
+# make firmware-count: instructions of each call on that board
+firmware-count:
+	@$(MAKE) --no-print-directory -C firmware count
 
 # make dist: target/dist/dipperchest-VERSION.tar.gz, all that is used without the kit, after make test
 dist: target/listing

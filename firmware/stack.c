@@ -46,10 +46,11 @@ static uint64_t used_stack(void)
     return (uint64_t)((const char *)stack_at_call - (const char *)word);
 }
 
-/* ---- The calls: each entry point, on a set-up of middle size and on the largest ---- */
+/* ---- The calls: each entry point, on set-ups from the smallest to the largest ---- */
 
-enum { FEW, MOST };
-static const struct { uint64_t nr, na, nm; } sizes[] = {{16, 8, 64}, {256, 8, 256}};
+static const struct { uint64_t nr, na, nm; } sizes[] = {
+    {1, 1, 1}, {4, 2, 4}, {16, 8, 64}, {64, 2, 16}, {43, 3, 100}, {256, 8, 256}};
+enum { SIZES = sizeof sizes / sizeof sizes[0] };
 static uint64_t nr, na, nm, offset, value, out;
 static struct bandwidth_buffers bw;
 static struct capacity_buffers cc;
@@ -119,9 +120,15 @@ static uint64_t most_used(uint64_t (*call)(void), int size)
 int main(void)
 {
     FIND_BOTTOM();
-    printf("entry point, stack at 128 pairs and 64 MCIDs, stack at 2048 pairs and 256 MCIDs\n");
-    for (unsigned i = 0; i < sizeof entries / sizeof entries[0]; i++)
-        printf("%s %" PRIu64 " %" PRIu64 "\n", entries[i].name, most_used(entries[i].call, FEW),
-               most_used(entries[i].call, MOST));
+    printf("entry point, stack at set-ups of NR x NA x NM:");
+    for (int size = 0; size < SIZES; size++)
+        printf(" %" PRIu64 " x %" PRIu64 " x %" PRIu64, sizes[size].nr, sizes[size].na,
+               sizes[size].nm);
+    for (unsigned i = 0; i < sizeof entries / sizeof entries[0]; i++) {
+        printf("\n%s", entries[i].name);
+        for (int size = 0; size < SIZES; size++)
+            printf(" %" PRIu64, most_used(entries[i].call, size));
+    }
+    printf("\n");
     return refused != 0;
 }
