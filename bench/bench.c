@@ -1,9 +1,7 @@
 /*
  * Benchmark: the library beside plain.c and tuned.c, in one run on the same
- * inputs. "bytes" are its functions on bytes, "core" those on words: they make
- * the same call without first decoding the tables into room on the stack.
- * Every call reads all tables (check 3); "read all" is for scale: the time of a
- * loop that adds up all words of record and tables.
+ * inputs. Every call reads all tables (check 3); "read all" is for scale: the
+ * time of a loop that adds up all words of record and tables.
  *
  * plain.c and tuned.c are compiled by gcc and, with -DWITH_CLANG, by clang
  * too, both with -O3 for baseline x86-64; the better one counts and is named.
@@ -16,7 +14,6 @@
 #define _POSIX_C_SOURCE 200809L
 #include "fastest.h"
 #include "inputs.h"
-#include "words.h"
 
 #include <time.h>
 
@@ -35,14 +32,13 @@
 #undef PREFIX
 #endif
 
-enum group { BYTES, CORE, PLAIN, TUNED, GROUPS };
+enum group { LIBRARY, PLAIN, TUNED, GROUPS };
 
 static const struct {
     enum group group;
     struct interface f; /* its name is the compiler's */
 } versions[] = {
-    {BYTES, INTERFACE("", cbqri_)},
-    {CORE, INTERFACE("", words_)},
+    {LIBRARY, INTERFACE("", cbqri_)},
     {PLAIN, INTERFACE("gcc", plain_gcc_)},
     {TUNED, INTERFACE("gcc", tuned_gcc_)},
 #ifdef WITH_CLANG
@@ -240,7 +236,7 @@ static void take_times(const struct measured *m, int repetitions, double millise
 
 static struct row measure(const struct measured *m, int repetitions, double milliseconds)
 {
-    struct row row = {.best = {BYTES, CORE, PLAIN, TUNED}};
+    struct row row = {.best = {LIBRARY, PLAIN, TUNED}};
     take_times(m, repetitions, milliseconds);
     for (int v = 0; v < VERSIONS; v++) {
         int *best = &row.best[versions[v].group];
@@ -258,7 +254,7 @@ static void print_head(int repetitions, double milliseconds)
 {
     printf("ns of processor time for a call, LOWER IS BETTER; least of %d repetitions of about"
            " %.0f ms\n"
-           "  bytes, core    the library, by its functions on bytes and on words\n"
+           "  library        the proved functions\n"
            "  plain, tuned   the same calls in C, straightforward and tuned by hand, -O3 for\n"
            "                 baseline x86-64, the better one of %s\n"
            "  read all       for scale: a loop that adds up the words of record and tables, all of\n"
@@ -267,10 +263,10 @@ static void print_head(int repetitions, double milliseconds)
            "  state          mixed: most pairs set; reset: after a reset\n"
            "  window end     each one finds what the one before left: after the first both tables\n"
            "                 of settings are equal, so that the next take less time\n\n",
-           repetitions, milliseconds, VERSIONS > 4 ? "gcc and clang" : "gcc alone");
-    printf("%-19s %-7s %4s %-6s %8s %8s %8s %-5s %8s %-5s %8s %11s %11s %10s %10s\n", "call",
-           "pairs", "NM", "state", "bytes", "core", "plain", "", "tuned", "", "read all",
-           "bytes/plain", "bytes/tuned", "core/plain", "core/tuned");
+           repetitions, milliseconds, VERSIONS > 3 ? "gcc and clang" : "gcc alone");
+    printf("%-19s %-7s %4s %-6s %8s %8s %-5s %8s %-5s %8s %13s %13s\n", "call", "pairs", "NM",
+           "state", "library", "plain", "", "tuned", "", "read all", "library/plain",
+           "library/tuned");
 }
 
 static void print_row(const struct measured *m, const struct setup *s, const char *state,
@@ -280,11 +276,10 @@ static void print_row(const struct measured *m, const struct setup *s, const cha
     const double *ns = row->ns;
     char pairs[16];
     snprintf(pairs, sizeof pairs, "%" PRIu64 " x %" PRIu64, s->nr, s->na);
-    printf("%-19s %-7s %4" PRIu64 " %-6s %8.1f %8.1f %8.1f %-5s %8.1f %-5s %8.1f %11.2f %11.2f %10.2f"
-           " %10.2f\n", m->name, pairs, s->nm, state, ns[BYTES], ns[CORE], ns[plain],
-           versions[plain].f.name, ns[tuned], versions[tuned].f.name, row->reading,
-           ns[BYTES] / ns[plain], ns[BYTES] / ns[tuned], ns[CORE] / ns[plain],
-           ns[CORE] / ns[tuned]);
+    printf("%-19s %-7s %4" PRIu64 " %-6s %8.1f %8.1f %-5s %8.1f %-5s %8.1f %13.2f %13.2f\n",
+           m->name, pairs, s->nm, state, ns[LIBRARY], ns[plain], versions[plain].f.name,
+           ns[tuned], versions[tuned].f.name, row->reading, ns[LIBRARY] / ns[plain],
+           ns[LIBRARY] / ns[tuned]);
     fflush(stdout);
 }
 
@@ -295,7 +290,7 @@ static double bench_state(const struct setup *s, int mixed, int repetitions, dou
     for (int i = 0; i < MEASURED; i++) {
         struct row row = measure(&measured[i], repetitions, milliseconds);
         print_row(&measured[i], s, mixed ? "mixed" : "reset", &row);
-        double here = row.ns[BYTES] / row.ns[row.best[PLAIN]];
+        double here = row.ns[LIBRARY] / row.ns[row.best[PLAIN]];
         worst = here > worst ? here : worst;
     }
     return worst;
@@ -315,6 +310,6 @@ int main(int argc, char **argv)
             worst = here > worst ? here : worst;
         }
     }
-    printf("the worst bytes/plain is %.2f\n", worst);
+    printf("the worst library/plain is %.2f\n", worst);
     return 0;
 }

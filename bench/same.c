@@ -2,8 +2,7 @@
  * Runs versions of the C interface side by side on the same random states,
  * well-formed and damaged ones, and the same random calls: answers and every byte
  * of record and tables must be equal. The first version is plain.c; the others
- * are tuned.c and, compiled with -DWITH_LIBRARY, the library by its functions
- * on bytes and, where all tables have whole words, by those on words.
+ * are tuned.c and, compiled with -DWITH_LIBRARY, the library.
  *
  *     same [rounds] [seed]
  */
@@ -17,17 +16,18 @@
 #define PREFIX tuned_
 #include "plain.h"
 #undef PREFIX
-#include "words.h"
+#ifdef WITH_LIBRARY
+#include "../include/cbqri.h"
+#endif
 
 static const struct interface versions[] = {
     INTERFACE("plain", plain_),
     INTERFACE("tuned", tuned_),
 #ifdef WITH_LIBRARY
     INTERFACE("library", cbqri_),
-    INTERFACE("library on words", words_),
 #endif
 };
-enum { VERSIONS = sizeof versions / sizeof versions[0], WORDS = 3 };
+enum { VERSIONS = sizeof versions / sizeof versions[0] };
 
 static uint64_t round_number, calls, answers[2][9];
 
@@ -51,7 +51,7 @@ struct controller {
 };
 
 /* One call by all versions; b becomes what the call leaves. */
-static void compare(const struct controller *k, void *b, int whole_words, const struct call *c)
+static void compare(const struct controller *k, void *b, const struct call *c)
 {
     static union {
         struct bandwidth_buffers bandwidth;
@@ -60,8 +60,6 @@ static void compare(const struct controller *k, void *b, int whole_words, const 
     uint64_t first_out = 1, first_answer = 0;
     for (int v = 0; v < VERSIONS; v++) {
         uint64_t out = 1;
-        if (v == WORDS && !whole_words)
-            continue;
         memcpy(&mine, b, k->size);
         uint64_t answer = k->call(&versions[v], &mine, c, &out);
         if (v == 0) {
@@ -93,13 +91,13 @@ static uint64_t capacity_call(const struct interface *f, void *b, const struct c
 static void compare_bandwidth(struct bandwidth_buffers *b, const struct call *c)
 {
     static const struct controller bandwidth = {"bandwidth", 0, sizeof *b, bandwidth_call};
-    compare(&bandwidth, b, bandwidth_whole_words(b), c);
+    compare(&bandwidth, b, c);
 }
 
 static void compare_capacity(struct capacity_buffers *b, const struct call *c)
 {
     static const struct controller capacity = {"capacity", 1, sizeof *b, capacity_call};
-    compare(&capacity, b, capacity_whole_words(b), c);
+    compare(&capacity, b, c);
 }
 
 int main(int argc, char **argv)

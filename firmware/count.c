@@ -27,32 +27,20 @@ static const struct setup *size;
         (void)a;                                                                          \
         return instructions() - from;                                                     \
     }
-#define COUNT_ALL(suffix, bandwidth, capacity)                                            \
-    COUNT(bandwidth_reset##suffix, NBWBLKS, MRBWB, size->nr, size->na, size->nm, Q, W,    \
-          bandwidth)                                                                      \
-    COUNT(bandwidth_read##suffix, bandwidth, 8, CBQRI_BW_ALLOC, &out)                     \
-    COUNT(bandwidth_write##suffix, bandwidth, 8, CBQRI_ALLOC_CTL, a->ctl)                 \
-    COUNT(bandwidth_request##suffix, bandwidth, a->rcid, a->mcid, a->at, a->which,        \
-          a->bytes, &out)                                                                 \
-    COUNT(bandwidth_end_window##suffix, bandwidth)                                        \
-    COUNT(capacity_reset##suffix, NCBLKS, size->nr, size->na, size->nm, W, capacity)      \
-    COUNT(capacity_read##suffix, capacity, 8, CBQRI_BLOCK_MASK, &out)                     \
-    COUNT(capacity_write##suffix, capacity, 8, CBQRI_ALLOC_CTL, a->ctl)                   \
-    COUNT(capacity_fill##suffix, capacity, a->rcid, a->mcid, a->at, a->bytes % NCBLKS,    \
-          &out)                                                                           \
-    COUNT(capacity_evict##suffix, capacity, a->rcid, a->mcid, a->at, a->bytes % NCBLKS)
+#define BANDWIDTH BANDWIDTH_OF(&now.bandwidth)
+#define CAPACITY CAPACITY_OF(&now.capacity)
+COUNT(bandwidth_reset, NBWBLKS, MRBWB, size->nr, size->na, size->nm, Q, W, BANDWIDTH)
+COUNT(bandwidth_read, BANDWIDTH, 8, CBQRI_BW_ALLOC, &out)
+COUNT(bandwidth_write, BANDWIDTH, 8, CBQRI_ALLOC_CTL, a->ctl)
+COUNT(bandwidth_request, BANDWIDTH, a->rcid, a->mcid, a->at, a->which, a->bytes, &out)
+COUNT(bandwidth_end_window, BANDWIDTH)
+COUNT(capacity_reset, NCBLKS, size->nr, size->na, size->nm, W, CAPACITY)
+COUNT(capacity_read, CAPACITY, 8, CBQRI_BLOCK_MASK, &out)
+COUNT(capacity_write, CAPACITY, 8, CBQRI_ALLOC_CTL, a->ctl)
+COUNT(capacity_fill, CAPACITY, a->rcid, a->mcid, a->at, a->bytes % NCBLKS, &out)
+COUNT(capacity_evict, CAPACITY, a->rcid, a->mcid, a->at, a->bytes % NCBLKS)
 
-static size_t pairs, mcids;
-#define BANDWIDTH_WORDS(b)                                                                \
-    (b)->record, (b)->record_len, (b)->active, pairs, (b)->configured, pairs, (b)->used,  \
-        pairs, (b)->counters, mcids, (b)->events, mcids
-#define CAPACITY_WORDS(c)                                                                 \
-    (c)->record, (c)->record_len, (c)->masks, pairs, (c)->counters, mcids, (c)->events,   \
-        mcids
-COUNT_ALL(, BANDWIDTH_OF(&now.bandwidth), CAPACITY_OF(&now.capacity))
-COUNT_ALL(_words, BANDWIDTH_WORDS(&now.bandwidth), CAPACITY_WORDS(&now.capacity))
-
-#define NAMED(name) {"cbqri_" #name, name}, {"cbqri_" #name "_words", name##_words}
+#define NAMED(name) {"cbqri_" #name, name}
 static const struct {
     const char *name;
     uint64_t (*count)(const struct arguments *a);
@@ -70,8 +58,6 @@ enum { SETUPS = sizeof setups / sizeof setups[0] };
 static void make_start(int mixed)
 {
     make_inputs(size, mixed);
-    pairs = size->nr * size->na;
-    mcids = size->nm;
     must(cbqri_bandwidth_write(BANDWIDTH_OF(&start.bandwidth), 8, CBQRI_BW_ALLOC,
                                cbqri_holder(3, 1)), "operand");
     must(cbqri_capacity_write(CAPACITY_OF(&start.capacity), 8, CBQRI_BLOCK_MASK, 0xff),
