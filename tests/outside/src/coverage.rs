@@ -11,27 +11,12 @@ use crate::model::registers::STATUS;
 
 pub type Labels = Vec<String>;
 
-/// The two kinds of tables that the C interface takes.
-pub const KINDS: [&str; 2] = ["bytes", "words"];
-
-/// What was shown on one kind of tables.
-pub fn on(kind: &str, labels: &Labels) -> Labels {
-    labels.iter().map(|label| format!("{label}, on {kind}")).collect()
-}
-
-/// What must be shown on both.
-pub fn on_both(labels: Labels) -> Labels {
-    KINDS.iter().flat_map(|kind| on(kind, &labels)).collect()
-}
-
 #[derive(Default)]
 pub struct Coverage {
     pub lists: u64,
     pub calls: u64,
     /// Calls after which the ledger's claims were checked.
     pub claimed: u64,
-    /// Calls that had no counterpart on words: some table was no whole number of them.
-    pub skipped: u64,
     counts: BTreeMap<String, u64>,
 }
 
@@ -50,7 +35,6 @@ impl Coverage {
     pub fn print(&self, controller: &str) {
         let (lists, calls, claimed) = (self.lists, self.calls, self.claimed);
         println!("{controller}: {calls} calls in {lists} lists, claims checked after {claimed}");
-        println!("  each on bytes and on words, but {} on bytes alone", self.skipped);
         self.print_counts();
     }
 

@@ -1,7 +1,7 @@
-//! One list of calls, each made on the model and through the C interface, on bytes and on words, and compared.
+//! One list of calls, each made on the model and through the C interface, and compared.
 
 use crate::controller::Controller;
-use crate::coverage::{on, Coverage, KINDS};
+use crate::coverage::Coverage;
 use crate::generator::{Change, Step};
 use crate::ledger::follow;
 use crate::memory::Memory;
@@ -70,18 +70,12 @@ impl<C: Controller> Session<C> {
     fn call(&mut self, call: &C::Call, coverage: &mut Coverage) -> Result<Answer, String> {
         let before = self.state.clone();
         let contents = self.memory.contents();
-        let mut words = self.memory.as_words(C::REGIONS);
         let expected = C::on_model(&mut self.state, &self.memory.lengths(), call);
         let contents = if expected.refusal == 0 { C::bytes(&self.state) } else { contents };
-        let labels = C::labels(&before, call, expected, &self.state);
-        for memory in std::iter::once(&mut self.memory).chain(&mut words) {
-            compare::<C>(memory, call, expected, &contents)
-                .map_err(|text| format!("on {}: {text}", kind(memory)))?;
-            coverage.note(on(kind(memory), &labels));
-        }
+        compare::<C>(&mut self.memory, call, expected, &contents)?;
+        coverage.note(C::labels(&before, call, expected, &self.state));
         follow(&mut self.ledger, call, expected, &self.state)?;
         coverage.calls += 1;
-        coverage.skipped += words.is_none() as u64;
         coverage.claimed += self.ledger.is_some() as u64;
         Ok(expected)
     }
@@ -123,10 +117,6 @@ impl<C: Controller> Session<C> {
         }
         Ok(())
     }
-}
-
-fn kind(memory: &Memory) -> &'static str {
-    KINDS[memory.is_words() as usize]
 }
 
 /// Makes the call through the C interface; what it answers and leaves must be what is expected.

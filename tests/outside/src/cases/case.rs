@@ -39,8 +39,7 @@ impl<'a, C: Controller> Case<'a, C> {
     pub fn call(&mut self, call: &C::Call) -> Answer {
         match self.report.side {
             Side::Model => self.on_model(call),
-            Side::Bytes => C::on_library(&mut self.memory, call),
-            Side::Words => self.on_words(call),
+            Side::Library => self.on_library(call),
         }
     }
 
@@ -53,17 +52,9 @@ impl<'a, C: Controller> Case<'a, C> {
         answer
     }
 
-    fn on_words(&mut self, call: &C::Call) -> Answer {
-        let mut words = match self.memory.as_words(C::REGIONS) {
-            Some(words) => words,
-            None => {
-                self.report.skipped += 1;
-                return C::on_library(&mut self.memory, call);
-            }
-        };
-        let answer = C::on_library(&mut words, call);
-        self.report.expect("guards of the words", words.guards_are_intact() as u64, 1);
-        self.memory = Memory::new(&words.contents(), SKEW);
+    fn on_library(&mut self, call: &C::Call) -> Answer {
+        let answer = C::on_library(&mut self.memory, call);
+        self.report.expect("guards", self.memory.guards_are_intact() as u64, 1);
         answer
     }
 
