@@ -36,7 +36,7 @@ soak:
 bench: target/listing
 	@$(MAKE) --no-print-directory -C bench LIB=$(CURDIR)/target/staticlib/libcbqri.a LISTING=$(CURDIR)/target/listing
 
-# make firmware: the C library for rv64, target/firmware/libcbqri.a, of the modules that were proved
+# make firmware: the C library for rv64, target/firmware/libcbqri.a, of the module that was proved
 firmware:
 	@$(MAKE) --no-print-directory -C firmware
 

@@ -15,7 +15,8 @@
  * The library keeps nothing of its own. A controller is a small record and a
  * few tables in buffers that you own and lend to each call. Set the buffers up
  * with a reset, then hand the same buffers to every later call. Every call but
- * a reset checks them whole (docs/COST.md says what that costs).
+ * a reset checks them whole (docs/COST.md says what a call costs in time and in
+ * stack).
  *
  * A function takes each buffer as a pointer and a length. A view (struct
  * cbqri_bw, struct cbqri_cc) has them all, and an inline function for each call
