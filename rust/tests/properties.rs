@@ -2,8 +2,6 @@
 //! nothing, what the getters show is what a driver reads, and a controller
 //! restored from its saved buffers is the same one.
 
-use std::fmt::Debug;
-
 use cbqri::registers as reg;
 use cbqri::{Bandwidth, BandwidthSetup, Capacity, CapacitySetup, Counter, Kind, Refusal, Setting};
 
@@ -74,6 +72,21 @@ fn bandwidth_call(bw: &mut Bandwidth, random: &mut Random) -> Result<(), Refusal
     }
 }
 
+/// What a driver reads of a pair and of a counter is what the getters show.
+fn bandwidth_reads(bw: &Bandwidth, random: &mut Random) {
+    let BandwidthSetup { nr, na, nm, .. } = bw.setup();
+    let (rcid, at, mcid) = (random.below(nr), random.below(na), random.below(nm));
+    let mut driver = bw.clone();
+    driver.write(8, reg::ALLOC_CTL, reg::alloc_ctl(reg::READ_LIMIT, at, rcid)).unwrap();
+    driver.write(8, reg::MON_CTL, reg::mon_ctl(reg::READ_COUNTER, 0, mcid, 0, false)).unwrap();
+    assert_eq!(driver.read(8, reg::BW_ALLOC), Ok(setting_word(bw.configured(rcid, at))));
+    let counter = counter_word(bw.counter(mcid).unwrap(), reg::BANDWIDTH_INVALID);
+    assert_eq!(driver.read(8, reg::MON_CTR_VAL), Ok(counter));
+    driver.end_window().unwrap();
+    assert_eq!(driver.active(rcid, at), bw.configured(rcid, at));
+    assert_eq!((bw.active(nr, 0), bw.configured(0, na), bw.counter(nm)), (None, None, None));
+}
+
 fn capacity_call(cc: &mut Capacity, random: &mut Random) -> Result<(), Refusal> {
     let CapacitySetup { ncblks, nr, na, nm, .. } = cc.setup();
     let (rcid, mcid, at) = (random.about(nr), random.about(nm), random.about(na));
@@ -88,94 +101,27 @@ fn capacity_call(cc: &mut Capacity, random: &mut Random) -> Result<(), Refusal> 
     }
 }
 
-/// What both controllers offer alike.
-trait Controller: Clone + PartialEq + Debug {
-    const INVALID: u64;
-    fn any_call(&mut self, random: &mut Random) -> Result<(), Refusal>;
-    fn write(&mut self, offset: u64, value: u64);
-    fn read(&self, offset: u64) -> u64;
-    /// NR, NA and NM.
-    fn sizes(&self) -> (u64, u64, u64);
-    /// What READ_LIMIT of a pair gives, by the getters; `None` if there is no such pair.
-    fn limit(&self, rcid: u64, at: u64) -> Option<u64>;
-    fn counter(&self, mcid: u64) -> Option<Counter>;
-    fn restored(&self) -> Result<Self, Refusal>;
-}
-
-macro_rules! controller {
-    ($name:ident, $invalid:expr, $call:ident, $limit:expr) => {
-        impl Controller for $name {
-            const INVALID: u64 = $invalid;
-
-            fn any_call(&mut self, random: &mut Random) -> Result<(), Refusal> {
-                $call(self, random)
-            }
-
-            fn write(&mut self, offset: u64, value: u64) {
-                $name::write(self, 8, offset, value).unwrap();
-            }
-
-            fn read(&self, offset: u64) -> u64 {
-                $name::read(self, 8, offset).unwrap()
-            }
-
-            fn sizes(&self) -> (u64, u64, u64) {
-                (self.setup().nr, self.setup().na, self.setup().nm)
-            }
-
-            fn limit(&self, rcid: u64, at: u64) -> Option<u64> {
-                $limit(self, rcid, at)
-            }
-
-            fn counter(&self, mcid: u64) -> Option<Counter> {
-                $name::counter(self, mcid)
-            }
-
-            fn restored(&self) -> Result<$name, Refusal> {
-                $name::from_buffers(self.buffers().clone())
-            }
-        }
-    };
-}
-
-controller!(Bandwidth, reg::BANDWIDTH_INVALID, bandwidth_call, |bw: &Bandwidth, rcid, at| {
-    bw.used(rcid, at).map(|_| setting_word(bw.configured(rcid, at)))
-});
-controller!(Capacity, reg::CAPACITY_INVALID, capacity_call, Capacity::mask);
-
-/// One call: if it is refused nothing has changed; saved and restored the controller is the same.
-fn check_call(controller: &mut impl Controller, random: &mut Random) -> bool {
-    let before = controller.clone();
-    let refused = controller.any_call(random).is_err();
-    assert!(!refused || *controller == before);
-    assert_eq!(controller.restored().as_ref(), Ok(&*controller));
-    refused
-}
-
-fn counter_register<C: Controller>(controller: &C, mcid: u64) -> Option<u64> {
-    Some(counter_word(controller.counter(mcid)?, C::INVALID))
-}
-
-/// What a driver reads of a pair and of a counter is what the getters show.
-fn check_reads(controller: &impl Controller, random: &mut Random) {
-    let (nr, na, nm) = controller.sizes();
+fn capacity_reads(cc: &Capacity, random: &mut Random) {
+    let CapacitySetup { nr, na, nm, .. } = cc.setup();
     let (rcid, at, mcid) = (random.below(nr), random.below(na), random.below(nm));
-    let mut driver = controller.clone();
-    driver.write(reg::ALLOC_CTL, reg::alloc_ctl(reg::READ_LIMIT, at, rcid));
-    driver.write(reg::MON_CTL, reg::mon_ctl(reg::READ_COUNTER, 0, mcid, 0, false));
-    assert_eq!(Some(driver.read(reg::BW_ALLOC)), controller.limit(rcid, at));
-    assert_eq!(Some(driver.read(reg::MON_CTR_VAL)), counter_register(controller, mcid));
-    assert_eq!((controller.limit(nr, 0), controller.limit(0, na)), (None, None));
-    assert_eq!(controller.counter(nm), None);
+    let mut driver = cc.clone();
+    driver.write(8, reg::ALLOC_CTL, reg::alloc_ctl(reg::READ_LIMIT, at, rcid)).unwrap();
+    driver.write(8, reg::MON_CTL, reg::mon_ctl(reg::READ_COUNTER, 0, mcid, 0, false)).unwrap();
+    assert_eq!(driver.read(8, reg::BLOCK_MASK).ok(), cc.mask(rcid, at));
+    let counter = counter_word(cc.counter(mcid).unwrap(), reg::CAPACITY_INVALID);
+    assert_eq!(driver.read(8, reg::MON_CTR_VAL), Ok(counter));
+    assert_eq!((cc.mask(nr, 0), cc.mask(0, na), cc.counter(nm)), (None, None, None));
 }
 
-/// What is configured of a pair is in force after the window's end.
-fn check_window(bw: &Bandwidth, random: &mut Random) {
-    let (rcid, at) = (random.below(bw.setup().nr), random.below(bw.setup().na));
-    let mut driver = bw.clone();
-    driver.end_window().unwrap();
-    assert_eq!(driver.active(rcid, at), bw.configured(rcid, at));
-    assert_eq!((bw.active(bw.setup().nr, 0), bw.configured(0, bw.setup().na)), (None, None));
+/// A macro and not a function, since the controllers have no type in common.
+macro_rules! check_call {
+    ($controller:expr, $type:ident, $call:expr, $random:expr) => {{
+        let before = $controller.clone();
+        let refused = $call(&mut $controller, $random).is_err();
+        assert!(!refused || $controller == before);
+        assert_eq!($type::from_buffers($controller.buffers().clone()).as_ref(), Ok(&$controller));
+        refused
+    }};
 }
 
 #[test]
@@ -191,11 +137,10 @@ fn random_calls() {
         let mut cc = Capacity::new(setup).unwrap();
         assert_eq!(cc.setup(), setup);
         for _ in 0..100 {
-            refused += u32::from(check_call(&mut bw, &mut random));
-            refused += u32::from(check_call(&mut cc, &mut random));
-            check_reads(&bw, &mut random);
-            check_reads(&cc, &mut random);
-            check_window(&bw, &mut random);
+            refused += u32::from(check_call!(bw, Bandwidth, bandwidth_call, &mut random));
+            refused += u32::from(check_call!(cc, Capacity, capacity_call, &mut random));
+            bandwidth_reads(&bw, &mut random);
+            capacity_reads(&cc, &mut random);
         }
     }
     assert!((1000..15000).contains(&refused), "{refused} of 30,000 calls were refused");
