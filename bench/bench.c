@@ -219,7 +219,7 @@ static void check_same(uint64_t sum, uint64_t *first_sum, int first, const char 
     }
 }
 
-static double times[VERSIONS + 1][MOST_REPETITIONS]; /* the last is reading */
+static double times[VERSIONS + 1][MAX_REPETITIONS]; /* the last is reading */
 
 static void take_times(const struct measured *m, int repetitions, double milliseconds)
 {
@@ -301,7 +301,7 @@ int main(int argc, char **argv)
     static const struct setup setups[] = {{4, 2, 4}, {64, 2, 16}, {256, 8, 256}};
     int repetitions = argc > 1 ? atoi(argv[1]) : 7;
     double milliseconds = argc > 2 ? atof(argv[2]) : 20, worst = 0;
-    if (repetitions < 1 || repetitions > MOST_REPETITIONS || milliseconds <= 0)
+    if (repetitions < 1 || repetitions > MAX_REPETITIONS || milliseconds <= 0)
         return 2;
     print_head(repetitions, milliseconds);
     for (int i = 0; i < 3; i++) {

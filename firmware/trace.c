@@ -101,19 +101,11 @@ static void lone_cases(void)
 
 /* ---- The random calls ---- */
 
-struct trace {
-    const char *name;
-    uint64_t (*call)(const struct interface *, const struct slice *, const struct call *,
-                     uint64_t *);
-    int slices;
+static struct trace {
     uint64_t count, checksum;
-    uint64_t answers[5][9]; /* how often each call had each answer */
+    uint64_t answers[KINDS][ANSWERS]; /* how often each call had each answer */
     char line[LINE + 1];
-};
-static struct trace bandwidth = {
-    .name = "bandwidth", .call = call_bandwidth_on, .slices = BANDWIDTH_SLICE_COUNT};
-static struct trace capacity = {
-    .name = "capacity", .call = call_capacity_on, .slices = CAPACITY_SLICE_COUNT};
+} traces[CONTROLLERS];
 
 static void add(struct trace *t, const uint8_t *bytes, size_t length)
 {
@@ -122,46 +114,36 @@ static void add(struct trace *t, const uint8_t *bytes, size_t length)
 }
 
 /* One call: what it left, its answer and the number that it handed back. */
-static void trace_call(struct trace *t, const struct slice *list, const struct call *c)
+static void trace_call(const struct controller *k, const struct slice *list, const struct call *c)
 {
+    struct trace *t = &traces[k->place];
     uint8_t bytes[8];
-    uint64_t out = 1, answer = t->call(&library, list, c, &out);
-    for (int i = 0; i < t->slices; i++)
+    uint64_t out = 1, answer = k->call(&library, list, c, &out);
+    for (int i = 0; i < k->slices; i++)
         add(t, list[i].at, list[i].length);
     put_word(bytes, 0, 8, out);
     add(t, bytes, sizeof bytes);
-    failed |= answer > 8;
-    t->answers[c->kind][answer % 9]++;
-    t->line[t->count++ % LINE] = (char)('0' + answer % 9);
+    failed |= answer >= ANSWERS;
+    t->answers[c->kind][answer % ANSWERS]++;
+    t->line[t->count++ % LINE] = (char)('0' + answer % ANSWERS);
     if (t->count % LINE == 0)
-        printf("%s %5" PRIu64 " %s %016" PRIx64 "\n", t->name, t->count, t->line, t->checksum);
-}
-
-static void trace_bandwidth(struct bandwidth_buffers *buffers, const struct call *c)
-{
-    const struct slice list[] = BANDWIDTH_LIST(buffers);
-    trace_call(&bandwidth, list, c);
-}
-
-static void trace_capacity(struct capacity_buffers *buffers, const struct call *c)
-{
-    const struct slice list[] = CAPACITY_LIST(buffers);
-    trace_call(&capacity, list, c);
+        printf("%s %5" PRIu64 " %s %016" PRIx64 "\n", k->name, t->count, t->line, t->checksum);
 }
 
 /* The calls by answer; each answer up to the last must have come up. */
-static void sum_up(const struct trace *t, const char *const names[5], int last)
+static void sum_up(const struct controller *k)
 {
-    uint64_t seen[9] = {0};
-    for (int kind = 0; kind < 5; kind++) {
-        printf("%s %s:", t->name, names[kind]);
-        for (int answer = 0; answer <= last; answer++) {
+    const struct trace *t = &traces[k->place];
+    uint64_t seen[ANSWERS] = {0};
+    for (int kind = 0; kind < KINDS; kind++) {
+        printf("%s %s:", k->name, k->calls[kind]);
+        for (int answer = 0; answer <= k->last_answer; answer++) {
             printf(" %" PRIu64, t->answers[kind][answer]);
             seen[answer] += t->answers[kind][answer];
         }
         printf("\n");
     }
-    for (int answer = 0; answer <= last; answer++)
+    for (int answer = 0; answer <= k->last_answer; answer++)
         failed |= seen[answer] == 0;
 }
 
@@ -170,12 +152,11 @@ int main(void)
     settings_cases();
     window_cases();
     lone_cases();
-    while (bandwidth.count < CALLS)
-        bandwidth_round(trace_bandwidth);
-    while (capacity.count < CALLS)
-        capacity_round(trace_capacity);
-    sum_up(&bandwidth, (const char *const[]){"reset", "read", "write", "request", "end_window"}, 7);
-    sum_up(&capacity, (const char *const[]){"reset", "read", "write", "fill", "evict"}, 8);
+    for (int i = 0; i < CONTROLLERS; i++)
+        while (traces[i].count < CALLS)
+            make_round(&controllers[i], trace_call);
+    for (int i = 0; i < CONTROLLERS; i++)
+        sum_up(&controllers[i]);
     printf("%s\n", failed ? "FAILED" : "as it should be");
     return failed;
 }

@@ -6,7 +6,7 @@
  *
  *     boundary [rounds]
  */
-#include "../bench/calls.h"
+#include "../bench/same_slices.h"
 
 #include "../include/cbqri.h"
 
@@ -14,18 +14,8 @@
 #include <stdio.h>
 #include <stdlib.h>
 
-enum { ANSWERS = 9, MAX_SLICES = BANDWIDTH_SLICE_COUNT };
-
 static const struct interface library = INTERFACE("library", cbqri_);
-
-static struct controller {
-    const char *name;
-    uint64_t (*call)(const struct interface *, const struct slice *, const struct call *,
-                     uint64_t *);
-    int slices, last_answer;
-    uint64_t answers[ANSWERS];
-} bandwidth = {"bandwidth", call_bandwidth_on, BANDWIDTH_SLICE_COUNT, 7, {0}},
-  capacity = {"capacity", call_capacity_on, CAPACITY_SLICE_COUNT, 8, {0}};
+static uint64_t answers[CONTROLLERS][ANSWERS];
 
 static void *block(const void *contents, size_t length)
 {
@@ -35,61 +25,37 @@ static void *block(const void *contents, size_t length)
     return memcpy(at, contents, length);
 }
 
-static int hands_back(const struct call *c)
-{
-    return c->kind == READ || c->kind == REQUEST;
-}
-
-/* Whether a refused call kept what a caller may rely on. */
-static int refused_well(const struct controller *t, const struct slice *before,
-                        const struct slice *after, const struct call *c, uint64_t out)
-{
-    for (int i = 0; i < t->slices; i++)
-        if (memcmp(before[i].at, after[i].at, before[i].length))
-            return 0;
-    return !hands_back(c) || out == 0;
-}
-
 /* One call on copies of the slices, which are then copied back. */
-static void call_on_heap(struct controller *t, const struct slice *list, const struct call *c)
+static void call_on_heap(const struct controller *k, const struct slice *list,
+                         const struct call *c)
 {
     struct slice copies[MAX_SLICES];
     uint64_t one = 1, *out = block(&one, sizeof one);
-    for (int i = 0; i < t->slices; i++)
+    int hands_back = c->kind == READ || c->kind == REQUEST;
+    for (int i = 0; i < k->slices; i++)
         copies[i] = (struct slice){block(list[i].at, list[i].length), list[i].length};
-    uint64_t answer = t->call(&library, copies, c, out);
-    if (answer >= ANSWERS || (answer != 0 && !refused_well(t, list, copies, c, *out))) {
-        printf("%s: call kind %d\n", t->name, (int)c->kind);
+    uint64_t answer = k->call(&library, copies, c, out);
+    if (answer >= ANSWERS || (answer != 0 && (!same_slices(list, copies, k->slices) ||
+                                              *out != (hands_back ? 0 : 1)))) {
+        printf("%s %s: answer %" PRIu64 "\n", k->name, k->calls[c->kind], answer);
         exit(1);
     }
-    t->answers[answer]++;
-    for (int i = 0; i < t->slices; i++) {
+    answers[k->place][answer]++;
+    for (int i = 0; i < k->slices; i++) {
         memcpy(list[i].at, copies[i].at, list[i].length);
         free(copies[i].at);
     }
     free(out);
 }
 
-static void bandwidth_call(struct bandwidth_buffers *b, const struct call *c)
-{
-    const struct slice list[] = BANDWIDTH_LIST(b);
-    call_on_heap(&bandwidth, list, c);
-}
-
-static void capacity_call(struct capacity_buffers *b, const struct call *c)
-{
-    const struct slice list[] = CAPACITY_LIST(b);
-    call_on_heap(&capacity, list, c);
-}
-
 /* Prints how often each answer came up; each must have. */
-static int all_seen(const struct controller *t)
+static int all_seen(const struct controller *k)
 {
     int seen = 1;
-    printf("%s:", t->name);
-    for (int i = 0; i <= t->last_answer; i++) {
-        printf(" %" PRIu64, t->answers[i]);
-        seen &= t->answers[i] > 0;
+    printf("%s:", k->name);
+    for (int i = 0; i <= k->last_answer; i++) {
+        printf(" %" PRIu64, answers[k->place][i]);
+        seen &= answers[k->place][i] > 0;
     }
     printf("\n");
     return seen;
@@ -97,10 +63,10 @@ static int all_seen(const struct controller *t)
 
 int main(int argc, char **argv)
 {
-    int rounds = argc > 1 ? atoi(argv[1]) : 1500;
-    for (int i = 0; i < rounds; i++) {
-        bandwidth_round(bandwidth_call);
-        capacity_round(capacity_call);
-    }
-    return !(all_seen(&bandwidth) & all_seen(&capacity));
+    int rounds = argc > 1 ? atoi(argv[1]) : 1500, seen = 1;
+    for (int i = 0; i < rounds * CONTROLLERS; i++)
+        make_round(&controllers[i % CONTROLLERS], call_on_heap);
+    for (int i = 0; i < CONTROLLERS; i++)
+        seen &= all_seen(&controllers[i]);
+    return !seen;
 }
