@@ -6,8 +6,10 @@ pub mod listing;
 
 use std::collections::BTreeMap;
 
+use crate::controller::Controller;
 use crate::model::access::{ALLOC_CTL, MON_CTL};
 use crate::model::registers::STATUS;
+use crate::model::{Answer, Checked};
 
 pub type Labels = Vec<String>;
 
@@ -53,17 +55,18 @@ fn outcome(call: &str, refusal: u64) -> String {
     }
 }
 
-/// What a call showed: the number of its refusal and, for 3, what is not well formed; or what it did.
-fn shown(
-    call: &str,
-    refusal: u64,
-    fault: impl FnOnce() -> Option<&'static str>,
-    accepted: impl FnOnce() -> Labels,
+/// What a call showed: the number of its refusal and, for 3, what is not well formed; or what it
+/// changed.
+pub fn labels<C: Controller>(
+    before: &C::State,
+    call: &C::Call,
+    answer: Answer,
+    after: &C::State,
 ) -> Labels {
-    let mut labels = vec![outcome(call, refusal)];
-    match refusal {
-        0 => labels.extend(accepted()),
-        3 => labels.push(format!("refused 3 for {}", fault().unwrap_or("nothing"))),
+    let mut labels = vec![outcome(C::call_name(call), answer.refusal)];
+    match answer.refusal {
+        0 => labels.extend(C::accepted(before, call, answer.value, after)),
+        3 => labels.push(format!("refused 3 for {}", before.fault().unwrap_or("nothing"))),
         _ => {}
     }
     labels

@@ -2,10 +2,11 @@
 
 use super::{Report, Side};
 use crate::controller::{Bandwidth, Capacity, Controller};
+use crate::image::Image;
 use crate::memory::Memory;
 use crate::model::access::{ALLOC_CTL, MON_CTL, OPERAND};
 use crate::model::registers::{CONFIG_LIMIT, READ_LIMIT, STATUS};
-use crate::model::{bandwidth, capacity, Answer, Checked, CommonCall};
+use crate::model::{bandwidth, capacity, Answer, Checked, CommonCall, Performs};
 
 pub struct Case<'a, C: Controller> {
     report: &'a mut Report,
@@ -44,10 +45,10 @@ impl<'a, C: Controller> Case<'a, C> {
     }
 
     fn on_model(&mut self, call: &C::Call) -> Answer {
-        let mut state = C::state(&self.memory.contents());
-        let answer = C::on_model(&mut state, &self.memory.lengths(), call);
+        let mut state = C::State::of(&self.memory.contents());
+        let answer = state.perform(&self.memory.lengths(), call);
         if answer.refusal == 0 {
-            self.memory = Memory::new(&C::bytes(&state), SKEW);
+            self.memory = Memory::new(&state.bytes(), SKEW);
         }
         answer
     }
