@@ -5,6 +5,8 @@
  *
  * plain.c and tuned.c are compiled by gcc and, with -DWITH_CLANG, by clang
  * too, both with -O3 for baseline x86-64; the better one counts and is named.
+ * With -DWITH_BEFORE another build of the library takes part, whose functions
+ * begin with before_cbqri_: that of an earlier commit.
  * Each number is the least of several repetitions, in which the versions take
  * turns; a ratio is that of the two numbers printed beside it. All versions
  * must give the same answers and leave the same bytes.
@@ -32,7 +34,13 @@
 #undef PREFIX
 #endif
 
-enum group { LIBRARY, PLAIN, TUNED, GROUPS };
+#ifdef WITH_BEFORE
+#define PREFIX before_cbqri_
+#include "plain.h"
+#undef PREFIX
+#endif
+
+enum group { LIBRARY, PLAIN, TUNED, BEFORE, GROUPS };
 
 static const struct {
     enum group group;
@@ -45,8 +53,16 @@ static const struct {
     {PLAIN, INTERFACE("clang", plain_clang_)},
     {TUNED, INTERFACE("clang", tuned_clang_)},
 #endif
+#ifdef WITH_BEFORE
+    {BEFORE, INTERFACE("", before_cbqri_)},
+#endif
 };
 enum { VERSIONS = sizeof versions / sizeof versions[0] };
+#ifdef WITH_CLANG
+#define COMPILERS "gcc and clang"
+#else
+#define COMPILERS "gcc alone"
+#endif
 
 static struct state first_end;
 
@@ -236,7 +252,7 @@ static void take_times(const struct measured *m, int repetitions, double millise
 
 static struct row measure(const struct measured *m, int repetitions, double milliseconds)
 {
-    struct row row = {.best = {LIBRARY, PLAIN, TUNED}};
+    struct row row = {.best = {LIBRARY, PLAIN, TUNED, VERSIONS - 1}};
     take_times(m, repetitions, milliseconds);
     for (int v = 0; v < VERSIONS; v++) {
         int *best = &row.best[versions[v].group];
@@ -263,10 +279,13 @@ static void print_head(int repetitions, double milliseconds)
            "  state          mixed: most pairs set; reset: after a reset\n"
            "  window end     each one finds what the one before left: after the first both tables\n"
            "                 of settings are equal, so that the next take less time\n\n",
-           repetitions, milliseconds, VERSIONS > 3 ? "gcc and clang" : "gcc alone");
+           repetitions, milliseconds, COMPILERS);
     printf("%-19s %-7s %4s %-6s %8s %8s %-5s %8s %-5s %8s %13s %13s\n", "call", "pairs", "NM",
            "state", "library", "plain", "", "tuned", "", "read all", "library/plain",
            "library/tuned");
+#ifdef WITH_BEFORE
+    printf("at the end of a row: before, library/before\n");
+#endif
 }
 
 static void print_row(const struct measured *m, const struct setup *s, const char *state,
@@ -276,10 +295,14 @@ static void print_row(const struct measured *m, const struct setup *s, const cha
     const double *ns = row->ns;
     char pairs[16];
     snprintf(pairs, sizeof pairs, "%" PRIu64 " x %" PRIu64, s->nr, s->na);
-    printf("%-19s %-7s %4" PRIu64 " %-6s %8.1f %8.1f %-5s %8.1f %-5s %8.1f %13.2f %13.2f\n",
+    printf("%-19s %-7s %4" PRIu64 " %-6s %8.1f %8.1f %-5s %8.1f %-5s %8.1f %13.2f %13.2f",
            m->name, pairs, s->nm, state, ns[LIBRARY], ns[plain], versions[plain].f.name,
            ns[tuned], versions[tuned].f.name, row->reading, ns[LIBRARY] / ns[plain],
            ns[LIBRARY] / ns[tuned]);
+#ifdef WITH_BEFORE
+    printf(" %8.1f %6.2f", ns[row->best[BEFORE]], ns[LIBRARY] / ns[row->best[BEFORE]]);
+#endif
+    printf("\n");
     fflush(stdout);
 }
 
