@@ -1,5 +1,5 @@
 # The lines '# make NAME: ..' are what make help prints.
-.PHONY: help quick test run soak bench firmware firmware-run dist fmt clean
+.PHONY: help quick test run soak bench firmware firmware-run firmware-count dist fmt clean
 
 # make help: this list
 help:
@@ -36,13 +36,17 @@ soak:
 bench: target/listing
 	@$(MAKE) --no-print-directory -C bench LIB=$(CURDIR)/target/staticlib/libcbqri.a LISTING=$(CURDIR)/target/listing
 
-# make firmware: the C library for rv64, target/firmware/libcbqri.a, of the modules that were proved
+# make firmware: the C library for rv64, target/firmware/libcbqri.a, of the module that was proved
 firmware:
 	@$(MAKE) --no-print-directory -C firmware
 
 # make firmware-run: the example emulator in C on qemu's bare RISC-V board
 firmware-run:
 	@$(MAKE) --no-print-directory -C firmware run
+
+# make firmware-count: instructions of each call on that board
+firmware-count:
+	@$(MAKE) --no-print-directory -C firmware count
 
 # make dist: target/dist/dipperchest-VERSION.tar.gz, all that is used without the kit, after make test
 dist: target/listing

@@ -1,12 +1,12 @@
 /*
  * Benchmark: the library beside plain.c and tuned.c, in one run on the same
- * inputs. "bytes" are its functions on bytes, "core" those on words: they make
- * the same call without first decoding the tables into room on the stack.
- * Every call reads all tables (check 3); "read all" is for scale: the time of a
- * loop that adds up all words of record and tables.
+ * inputs. Every call reads all tables (check 3); "read all" is for scale: the
+ * time of a loop that adds up all words of record and tables.
  *
  * plain.c and tuned.c are compiled by gcc and, with -DWITH_CLANG, by clang
  * too, both with -O3 for baseline x86-64; the better one counts and is named.
+ * With -DWITH_BEFORE another build of the library takes part, whose functions
+ * begin with before_cbqri_: that of an earlier commit.
  * Each number is the least of several repetitions, in which the versions take
  * turns; a ratio is that of the two numbers printed beside it. All versions
  * must give the same answers and leave the same bytes.
@@ -15,12 +15,8 @@
  */
 #define _POSIX_C_SOURCE 200809L
 #include "fastest.h"
-#include "words.h"
+#include "inputs.h"
 
-#include <inttypes.h>
-#include <stdio.h>
-#include <stdlib.h>
-#include <string.h>
 #include <time.h>
 
 #define PREFIX plain_gcc_
@@ -38,128 +34,37 @@
 #undef PREFIX
 #endif
 
-enum group { BYTES, CORE, PLAIN, TUNED, GROUPS };
+#ifdef WITH_BEFORE
+#define PREFIX before_cbqri_
+#include "plain.h"
+#undef PREFIX
+#endif
+
+enum group { LIBRARY, PLAIN, TUNED, BEFORE, GROUPS };
 
 static const struct {
     enum group group;
     struct interface f; /* its name is the compiler's */
 } versions[] = {
-    {BYTES, INTERFACE("", cbqri_)},
-    {CORE, INTERFACE("", words_)},
+    {LIBRARY, INTERFACE("", cbqri_)},
     {PLAIN, INTERFACE("gcc", plain_gcc_)},
     {TUNED, INTERFACE("gcc", tuned_gcc_)},
 #ifdef WITH_CLANG
     {PLAIN, INTERFACE("clang", plain_clang_)},
     {TUNED, INTERFACE("clang", tuned_clang_)},
 #endif
+#ifdef WITH_BEFORE
+    {BEFORE, INTERFACE("", before_cbqri_)},
+#endif
 };
-enum { VERSIONS = sizeof versions / sizeof versions[0], CALLS = 256 };
+enum { VERSIONS = sizeof versions / sizeof versions[0] };
+#ifdef WITH_CLANG
+#define COMPILERS "gcc and clang"
+#else
+#define COMPILERS "gcc alone"
+#endif
 
-/* Inputs */
-
-struct setup {
-    uint64_t nr, na, nm;
-};
-
-enum { NBWBLKS = 60000, MRBWB = 50000, Q = 65536, W = 40, NCBLKS = 48 };
-#define BLOCKS (UINT64_MAX >> (64 - NCBLKS))
-
-/* Arguments of a call; which is the kind of a request or the block. */
-struct arguments {
-    uint64_t rcid, mcid, at, which, ctl;
-    uint32_t bytes;
-};
-
-/* Everything a call works on. */
-struct state {
-    struct bandwidth_buffers bandwidth;
-    struct capacity_buffers capacity;
-};
-
-static struct state start, now, first_end;
-static struct arguments list[CALLS];
-static uint64_t seed;
-
-static uint64_t upto(uint64_t below)
-{
-    return next_random(&seed) % below;
-}
-
-static void must(uint64_t refusal, const char *what)
-{
-    if (refusal == 0)
-        return;
-    printf("%s was refused: %" PRIu64 "\n", what, refusal);
-    exit(1);
-}
-
-static void state_after_reset(const struct setup *s)
-{
-    memset(&start, 0, sizeof start);
-    bandwidth_lengths(&start.bandwidth, s->nr, s->na, s->nm);
-    capacity_lengths(&start.capacity, s->nr, s->na, s->nm);
-    must(cbqri_bandwidth_reset(NBWBLKS, MRBWB, s->nr, s->na, s->nm, Q, W,
-                               BANDWIDTH_OF(&start.bandwidth)), "reset");
-    must(cbqri_capacity_reset(NCBLKS, s->nr, s->na, s->nm, W, CAPACITY_OF(&start.capacity)),
-         "reset");
-}
-
-/* AT 0 holds; of the others about two thirds hold, one in six shares AT 0 and
- * one in six is not set. Each third holder has no weight. */
-static uint64_t mixed_setting(uint64_t at)
-{
-    uint64_t kind = at == 0 ? 0 : upto(6);
-    if (kind == 4)
-        return cbqri_sharer(0);
-    return kind == 5 ? 0 : cbqri_holder(1 + upto(20), upto(3));
-}
-
-static void mixed_monitor(void *counters, void *events, const struct setup *s,
-                          uint64_t last_event)
-{
-    for (uint64_t i = 0; i < s->nm; i++) {
-        uint64_t at = s->na > 1 && upto(4) == 0 ? 0x800 | upto(s->na) << 8 : 0;
-        put_word(events, i, 2, upto(8) ? (1 + upto(last_event)) | at : 0);
-        put_word(counters, i, 8, (UINT64_C(1) << (W - 1)) + upto(1000000));
-    }
-}
-
-/* Holders, sharers and unset pairs; half of the holders have used something;
- * two RCIDs are configured anew since the last window end. */
-static void state_mixed(const struct setup *s)
-{
-    struct bandwidth_buffers *b = &start.bandwidth;
-    struct capacity_buffers *c = &start.capacity;
-    state_after_reset(s);
-    for (uint64_t i = 0; i < s->nr * s->na; i++) {
-        uint64_t word = mixed_setting(i % s->na);
-        put_word(b->active, i, 4, word);
-        put_word(b->configured, i, 4, word);
-        if ((word & 0xffff) && upto(2))
-            put_word(b->used, i, 4, upto(Q / 2));
-        put_word(c->masks, i, 8, upto(4) ? next_random(&seed) & BLOCKS : 0);
-    }
-    for (int i = 0; i < 2; i++)
-        put_word(b->configured, upto(s->nr) * s->na, 4, cbqri_holder(21 + upto(4), 1));
-    put_word(b->record, 11, 8, 12345);
-    mixed_monitor(b->counters, b->events, s, 3);
-    mixed_monitor(c->counters, c->events, s, 1);
-    must(cbqri_bandwidth_write(BANDWIDTH_OF(b), 8, CBQRI_ALLOC_CTL, 2), "state");
-}
-
-/* Small requests, so that reservations last; CONFIG_LIMIT goes round 8 RCIDs
- * at most, AT 0, so that the tables keep their mixture. */
-static void make_list(const struct setup *s, int mixed)
-{
-    uint64_t some = mixed ? (s->nr < 8 ? s->nr : 8) : 1;
-    for (int i = 0; i < CALLS; i++) {
-        uint64_t rcid = upto(some) * (s->nr / (s->nr < 8 ? s->nr : 8));
-        list[i] = (struct arguments){
-            .rcid = upto(s->nr), .mcid = upto(s->nm), .at = upto(s->na),
-            .which = upto(2), .bytes = (uint32_t)upto(64),
-            .ctl = cbqri_alloc_ctl(CBQRI_CONFIG_LIMIT, 0, rcid)};
-    }
-}
+static struct state first_end;
 
 /* The measured calls: n of each, with everything they answer added up. */
 
@@ -330,7 +235,7 @@ static void check_same(uint64_t sum, uint64_t *first_sum, int first, const char 
     }
 }
 
-static double times[VERSIONS + 1][MOST_REPETITIONS]; /* the last is reading */
+static double times[VERSIONS + 1][MAX_REPETITIONS]; /* the last is reading */
 
 static void take_times(const struct measured *m, int repetitions, double milliseconds)
 {
@@ -347,7 +252,7 @@ static void take_times(const struct measured *m, int repetitions, double millise
 
 static struct row measure(const struct measured *m, int repetitions, double milliseconds)
 {
-    struct row row = {.best = {BYTES, CORE, PLAIN, TUNED}};
+    struct row row = {.best = {LIBRARY, PLAIN, TUNED, VERSIONS - 1}};
     take_times(m, repetitions, milliseconds);
     for (int v = 0; v < VERSIONS; v++) {
         int *best = &row.best[versions[v].group];
@@ -365,7 +270,7 @@ static void print_head(int repetitions, double milliseconds)
 {
     printf("ns of processor time for a call, LOWER IS BETTER; least of %d repetitions of about"
            " %.0f ms\n"
-           "  bytes, core    the library, by its functions on bytes and on words\n"
+           "  library        the proved functions\n"
            "  plain, tuned   the same calls in C, straightforward and tuned by hand, -O3 for\n"
            "                 baseline x86-64, the better one of %s\n"
            "  read all       for scale: a loop that adds up the words of record and tables, all of\n"
@@ -374,10 +279,13 @@ static void print_head(int repetitions, double milliseconds)
            "  state          mixed: most pairs set; reset: after a reset\n"
            "  window end     each one finds what the one before left: after the first both tables\n"
            "                 of settings are equal, so that the next take less time\n\n",
-           repetitions, milliseconds, VERSIONS > 4 ? "gcc and clang" : "gcc alone");
-    printf("%-19s %-7s %4s %-6s %8s %8s %8s %-5s %8s %-5s %8s %11s %11s %10s %10s\n", "call",
-           "pairs", "NM", "state", "bytes", "core", "plain", "", "tuned", "", "read all",
-           "bytes/plain", "bytes/tuned", "core/plain", "core/tuned");
+           repetitions, milliseconds, COMPILERS);
+    printf("%-19s %-7s %4s %-6s %8s %8s %-5s %8s %-5s %8s %13s %13s\n", "call", "pairs", "NM",
+           "state", "library", "plain", "", "tuned", "", "read all", "library/plain",
+           "library/tuned");
+#ifdef WITH_BEFORE
+    printf("at the end of a row: before, library/before\n");
+#endif
 }
 
 static void print_row(const struct measured *m, const struct setup *s, const char *state,
@@ -387,27 +295,25 @@ static void print_row(const struct measured *m, const struct setup *s, const cha
     const double *ns = row->ns;
     char pairs[16];
     snprintf(pairs, sizeof pairs, "%" PRIu64 " x %" PRIu64, s->nr, s->na);
-    printf("%-19s %-7s %4" PRIu64 " %-6s %8.1f %8.1f %8.1f %-5s %8.1f %-5s %8.1f %11.2f %11.2f %10.2f"
-           " %10.2f\n", m->name, pairs, s->nm, state, ns[BYTES], ns[CORE], ns[plain],
-           versions[plain].f.name, ns[tuned], versions[tuned].f.name, row->reading,
-           ns[BYTES] / ns[plain], ns[BYTES] / ns[tuned], ns[CORE] / ns[plain],
-           ns[CORE] / ns[tuned]);
+    printf("%-19s %-7s %4" PRIu64 " %-6s %8.1f %8.1f %-5s %8.1f %-5s %8.1f %13.2f %13.2f",
+           m->name, pairs, s->nm, state, ns[LIBRARY], ns[plain], versions[plain].f.name,
+           ns[tuned], versions[tuned].f.name, row->reading, ns[LIBRARY] / ns[plain],
+           ns[LIBRARY] / ns[tuned]);
+#ifdef WITH_BEFORE
+    printf(" %8.1f %6.2f", ns[row->best[BEFORE]], ns[LIBRARY] / ns[row->best[BEFORE]]);
+#endif
+    printf("\n");
     fflush(stdout);
 }
 
 static double bench_state(const struct setup *s, int mixed, int repetitions, double milliseconds)
 {
     double worst = 0;
-    seed = 2023;
-    if (mixed)
-        state_mixed(s);
-    else
-        state_after_reset(s);
-    make_list(s, mixed);
+    make_inputs(s, mixed);
     for (int i = 0; i < MEASURED; i++) {
         struct row row = measure(&measured[i], repetitions, milliseconds);
         print_row(&measured[i], s, mixed ? "mixed" : "reset", &row);
-        double here = row.ns[BYTES] / row.ns[row.best[PLAIN]];
+        double here = row.ns[LIBRARY] / row.ns[row.best[PLAIN]];
         worst = here > worst ? here : worst;
     }
     return worst;
@@ -418,7 +324,7 @@ int main(int argc, char **argv)
     static const struct setup setups[] = {{4, 2, 4}, {64, 2, 16}, {256, 8, 256}};
     int repetitions = argc > 1 ? atoi(argv[1]) : 7;
     double milliseconds = argc > 2 ? atof(argv[2]) : 20, worst = 0;
-    if (repetitions < 1 || repetitions > MOST_REPETITIONS || milliseconds <= 0)
+    if (repetitions < 1 || repetitions > MAX_REPETITIONS || milliseconds <= 0)
         return 2;
     print_head(repetitions, milliseconds);
     for (int i = 0; i < 3; i++) {
@@ -427,6 +333,6 @@ int main(int argc, char **argv)
             worst = here > worst ? here : worst;
         }
     }
-    printf("the worst bytes/plain is %.2f\n", worst);
+    printf("the worst library/plain is %.2f\n", worst);
     return 0;
 }

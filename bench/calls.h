@@ -9,6 +9,16 @@
 
 #include <string.h>
 
+/* The slices of a controller by number; the last two are the same in both. */
+enum { RECORD, ACTIVE, CONFIGURED, USED, BANDWIDTH_COUNTERS, BANDWIDTH_EVENTS, BANDWIDTH_SLICES_END };
+enum { MASKS = 1, CAPACITY_COUNTERS, CAPACITY_EVENTS, CAPACITY_SLICES_END };
+enum { MAX_SLICES = BANDWIDTH_SLICES_END };
+
+struct slice {
+    uint8_t *at;
+    size_t length;
+};
+
 static uint64_t seed = 1;
 
 /* A number from 0 to below - 1. */
@@ -104,32 +114,34 @@ static void random_monitor(void *counters, void *events, const struct setup *s,
     }
 }
 
-static void random_bandwidth(struct bandwidth_buffers *b, const struct setup *s)
+static void random_bandwidth(const struct slice *list, const struct setup *s)
 {
-    uint64_t sum = random_settings(b->active, s);
+    uint8_t *active = list[ACTIVE].at, *configured = list[CONFIGURED].at;
+    uint64_t sum = random_settings(active, s);
     uint64_t pool = (s->nbwblks - sum) * s->q;
     if (one_in(3))
-        memcpy(b->configured, b->active, b->active_len);
+        memcpy(configured, active, list[ACTIVE].length);
     else
-        random_settings(b->configured, s);
+        random_settings(configured, s);
     for (uint64_t i = 0; i < s->nr * s->na; i++) {
-        uint64_t limit = (get_word(b->active, i, 4) & 0xffff) * s->q;
-        put_word(b->used, i, 4, PICK(0, limit, limit ? upto(limit) : 0));
+        uint64_t limit = (get_word(active, i, 4) & 0xffff) * s->q;
+        put_word(list[USED].at, i, 4, PICK(0, limit, limit ? upto(limit) : 0));
     }
-    random_monitor(b->counters, b->events, s, 3, UINT64_C(3) << 62);
-    put_word(b->record, 11, 8, PICK(0, pool, pool ? upto(pool) : 0));
+    random_monitor(list[BANDWIDTH_COUNTERS].at, list[BANDWIDTH_EVENTS].at, s, 3, UINT64_C(3) << 62);
+    put_word(list[RECORD].at, 11, 8, PICK(0, pool, pool ? upto(pool) : 0));
 }
 
-static void random_capacity(struct capacity_buffers *c, const struct setup *s)
+static void random_capacity(const struct slice *list, const struct setup *s)
 {
     uint64_t blocks = UINT64_MAX >> (64 - s->ncblks);
     for (uint64_t i = 0; i < s->nr * s->na; i++)
-        put_word(c->masks, i, 8, PICK(0, blocks, next_random(&seed) & blocks));
-    random_monitor(c->counters, c->events, s, 1, UINT64_C(1) << 63);
+        put_word(list[MASKS].at, i, 8, PICK(0, blocks, next_random(&seed) & blocks));
+    random_monitor(list[CAPACITY_COUNTERS].at, list[CAPACITY_EVENTS].at, s, 1, UINT64_C(1) << 63);
 }
 
-/* Damage: one word of one buffer becomes another, mostly a near one. */
+/* Damage */
 
+/* One word becomes another, mostly a near one. */
 static void damage_word(void *table, size_t length, unsigned bytes)
 {
     uint64_t index = upto(length / bytes);
@@ -157,56 +169,6 @@ static void damage_word(void *table, size_t length, unsigned bytes)
 static void damage_length(size_t *length)
 {
     *length = PICK(0, *length - 1, *length / 2, *length > 4 ? *length - 4 : 0);
-}
-
-static void damage_bandwidth(struct bandwidth_buffers *b)
-{
-    size_t *lengths[] = {&b->record_len, &b->active_len, &b->configured_len,
-                         &b->used_len, &b->counters_len, &b->events_len};
-    switch (upto(8)) {
-    case 0:
-        damage_word(b->record, b->record_len, 8);
-        break;
-    case 1:
-        damage_word(b->configured, b->configured_len, 4);
-        break;
-    case 2:
-        damage_word(b->used, b->used_len, 4);
-        break;
-    case 3:
-        damage_word(b->counters, b->counters_len, 8);
-        break;
-    case 4:
-        damage_word(b->events, b->events_len, 2);
-        break;
-    case 5:
-        damage_length(lengths[upto(6)]);
-        break;
-    default:
-        damage_word(b->active, b->active_len, 4);
-    }
-}
-
-static void damage_capacity(struct capacity_buffers *c)
-{
-    size_t *lengths[] = {&c->record_len, &c->masks_len, &c->counters_len, &c->events_len};
-    switch (upto(5)) {
-    case 0:
-        damage_word(c->record, c->record_len, 8);
-        break;
-    case 1:
-        damage_word(c->masks, c->masks_len, 8);
-        break;
-    case 2:
-        damage_word(c->counters, c->counters_len, 8);
-        break;
-    case 3:
-        damage_word(c->events, c->events_len, 2);
-        break;
-    case 4:
-        damage_length(lengths[upto(4)]);
-        break;
-    }
 }
 
 /* Random calls */
@@ -278,15 +240,15 @@ static struct call random_call(const struct setup *s, int bandwidth)
     return c;
 }
 
-/* A call on slices, and on buffers. */
+/* A call on slices */
 
 #define FOUR(s)                                                                \
     (s)[0].at, (s)[0].length, (s)[1].at, (s)[1].length, (s)[2].at,             \
         (s)[2].length, (s)[3].at, (s)[3].length
 #define SIX(s) FOUR(s), (s)[4].at, (s)[4].length, (s)[5].at, (s)[5].length
 
-static uint64_t call_bandwidth_on(const struct interface *f, const struct slice *b,
-                                  const struct call *c, uint64_t *out)
+static uint64_t call_bandwidth(const struct interface *f, const struct slice *b,
+                               const struct call *c, uint64_t *out)
 {
     const struct setup *s = &c->setup;
     switch (c->kind) {
@@ -303,8 +265,8 @@ static uint64_t call_bandwidth_on(const struct interface *f, const struct slice 
     }
 }
 
-static uint64_t call_capacity_on(const struct interface *f, const struct slice *b,
-                                 const struct call *c, uint64_t *out)
+static uint64_t call_capacity(const struct interface *f, const struct slice *b,
+                              const struct call *c, uint64_t *out)
 {
     const struct setup *s = &c->setup;
     switch (c->kind) {
@@ -321,63 +283,81 @@ static uint64_t call_capacity_on(const struct interface *f, const struct slice *
     }
 }
 
-static inline uint64_t call_bandwidth(const struct interface *f, struct bandwidth_buffers *b,
-                                      const struct call *c, uint64_t *out)
-{
-    const struct slice list[] = BANDWIDTH_LIST(b);
-    return call_bandwidth_on(f, list, c, out);
-}
+/* The controllers */
 
-static inline uint64_t call_capacity(const struct interface *f, struct capacity_buffers *b,
-                                     const struct call *c, uint64_t *out)
-{
-    const struct slice list[] = CAPACITY_LIST(b);
-    return call_capacity_on(f, list, c, out);
-}
+enum { ANSWERS = 9, KINDS = 5 };
 
-/* Rounds: a set-up, perhaps a random state, then calls, some on damaged copies.
- * call makes one call, and leaves in the buffers what it left. */
+struct controller {
+    const char *name, *calls[KINDS];
+    int place, slices, last_answer, calls_of_a_round;
+    size_t record;               /* bytes */
+    unsigned widths[MAX_SLICES]; /* bytes of a word in each slice */
+    void (*random_state)(const struct slice *list, const struct setup *s);
+    uint64_t (*call)(const struct interface *f, const struct slice *list, const struct call *c,
+                     uint64_t *out);
+};
 
-static void bandwidth_round(void (*call)(struct bandwidth_buffers *, const struct call *))
+enum { CONTROLLERS = 2 };
+static const struct controller controllers[CONTROLLERS] = {
+    {"bandwidth", {"reset", "read", "write", "request", "end_window"}, 0, BANDWIDTH_SLICES_END, 7,
+     24, 96, {8, 4, 4, 4, 8, 2}, random_bandwidth, call_bandwidth},
+    {"capacity", {"reset", "read", "write", "fill", "evict"}, 1, CAPACITY_SLICES_END, 8, 12, 72,
+     {8, 8, 8, 2}, random_capacity, call_capacity},
+};
+
+/* Slices with memory of their own, for the largest set-up. */
+struct memory {
+    struct slice list[MAX_SLICES];
+    uint64_t words[MAX_SLICES][MAX_PAIRS];
+};
+
+static void fit(struct memory *m, const struct controller *k, const struct setup *s)
 {
-    static struct bandwidth_buffers b, damaged;
-    struct setup s = random_setup();
-    struct call reset = {.kind = RESET, .setup = s};
-    memset(&b, 0xa5, sizeof b);
-    bandwidth_lengths(&b, s.nr, s.na, s.nm);
-    call(&b, &reset);
-    if (!one_in(3))
-        random_bandwidth(&b, &s);
-    for (int i = 0; i < 24; i++) {
-        struct call c = random_call(&s, 1);
-        if (one_in(3)) {
-            damaged = b;
-            damage_bandwidth(&damaged);
-            call(&damaged, &c);
-        } else {
-            call(&b, &c);
-        }
+    for (int i = 0; i < k->slices; i++) {
+        size_t length = k->widths[i] * (i < k->slices - 2 ? s->nr * s->na : s->nm);
+        m->list[i] = (struct slice){(uint8_t *)m->words[i], i == RECORD ? k->record : length};
     }
 }
 
-static void capacity_round(void (*call)(struct capacity_buffers *, const struct call *))
+static void copy_slices(struct memory *to, const struct slice *from, int slices)
 {
-    static struct capacity_buffers b, damaged;
+    for (int i = 0; i < slices; i++) {
+        to->list[i] = (struct slice){(uint8_t *)to->words[i], from[i].length};
+        memcpy(to->words[i], from[i].at, from[i].length);
+    }
+}
+
+static void damage(const struct controller *k, struct slice *list)
+{
+    int i = (int)upto((uint64_t)k->slices);
+    if (one_in((uint64_t)k->slices))
+        damage_length(&list[i].length);
+    else
+        damage_word(list[i].at, list[i].length, k->widths[i]);
+}
+
+/* A round: a set-up, perhaps a random state, then calls, some on damaged copies.
+ * make makes one call, and leaves in the slices what it left. */
+static void make_round(const struct controller *k,
+                       void (*make)(const struct controller *, const struct slice *,
+                                    const struct call *))
+{
+    static struct memory m, damaged;
     struct setup s = random_setup();
     struct call reset = {.kind = RESET, .setup = s};
-    memset(&b, 0xa5, sizeof b);
-    capacity_lengths(&b, s.nr, s.na, s.nm);
-    call(&b, &reset);
+    memset(m.words, 0xa5, sizeof m.words);
+    fit(&m, k, &s);
+    make(k, m.list, &reset);
     if (!one_in(3))
-        random_capacity(&b, &s);
-    for (int i = 0; i < 12; i++) {
-        struct call c = random_call(&s, 0);
+        k->random_state(m.list, &s);
+    for (int i = 0; i < k->calls_of_a_round; i++) {
+        struct call c = random_call(&s, k->place == 0);
         if (one_in(3)) {
-            damaged = b;
-            damage_capacity(&damaged);
-            call(&damaged, &c);
+            copy_slices(&damaged, m.list, k->slices);
+            damage(k, damaged.list);
+            make(k, damaged.list, &c);
         } else {
-            call(&b, &c);
+            make(k, m.list, &c);
         }
     }
 }

@@ -3,7 +3,7 @@
 #ifndef FASTEST_H
 #define FASTEST_H
 
-enum { MOST_REPETITIONS = 99 };
+enum { MAX_REPETITIONS = 99 };
 
 static double fastest(const double *numbers, int count)
 {

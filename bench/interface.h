@@ -40,23 +40,23 @@ struct interface {
             JOIN(prefix, capacity_fill), JOIN(prefix, capacity_evict)          \
     }
 
-enum { MOST_PAIRS = 256 * 8, MOST_MCIDS = 256 };
+enum { MAX_PAIRS = 256 * 8, MAX_MCIDS = 256 };
 
-/* Buffers of either controller, with room for the largest set-up; lengths are
- * in bytes. Tables lie where words may; a little-endian host has the same
- * bytes in them whichever way they are written. */
+/* Buffers of either controller, large enough for every set-up; lengths are in
+ * bytes. A little-endian host has the same bytes in the tables whichever way
+ * they are written. */
 struct bandwidth_buffers {
     uint8_t record[96];
-    uint32_t active[MOST_PAIRS], configured[MOST_PAIRS], used[MOST_PAIRS];
-    uint64_t counters[MOST_MCIDS];
-    uint16_t events[MOST_MCIDS];
+    uint32_t active[MAX_PAIRS], configured[MAX_PAIRS], used[MAX_PAIRS];
+    uint64_t counters[MAX_MCIDS];
+    uint16_t events[MAX_MCIDS];
     size_t record_len, active_len, configured_len, used_len, counters_len, events_len;
 };
 
 struct capacity_buffers {
     uint8_t record[72];
-    uint64_t masks[MOST_PAIRS], counters[MOST_MCIDS];
-    uint16_t events[MOST_MCIDS];
+    uint64_t masks[MAX_PAIRS], counters[MAX_MCIDS];
+    uint16_t events[MAX_MCIDS];
     size_t record_len, masks_len, counters_len, events_len;
 };
 
@@ -69,21 +69,6 @@ struct capacity_buffers {
     (c)->record, (c)->record_len, (uint8_t *)(c)->masks, (c)->masks_len,       \
         (uint8_t *)(c)->counters, (c)->counters_len, (uint8_t *)(c)->events,   \
         (c)->events_len
-
-/* The slices of a call as a list, to be worked through in a loop. */
-struct slice {
-    uint8_t *at;
-    size_t length;
-};
-#define SLICE(buffers, name) {(uint8_t *)(buffers)->name, (buffers)->name##_len}
-#define BANDWIDTH_LIST(b)                                                      \
-    {                                                                          \
-        SLICE(b, record), SLICE(b, active), SLICE(b, configured),              \
-            SLICE(b, used), SLICE(b, counters), SLICE(b, events)               \
-    }
-#define CAPACITY_LIST(c)                                                       \
-    {SLICE(c, record), SLICE(c, masks), SLICE(c, counters), SLICE(c, events)}
-enum { BANDWIDTH_SLICE_COUNT = 6, CAPACITY_SLICE_COUNT = 4 };
 
 static inline void bandwidth_lengths(struct bandwidth_buffers *b, uint64_t nr,
                                      uint64_t na, uint64_t nm)

@@ -12,12 +12,12 @@
 #include <string.h>
 #include <unistd.h>
 
-enum { LONGEST_LINE = 80, LONGEST_ANSWER = 32, ROOM = 1 << 16 };
+enum { LONGEST_LINE = 80, LONGEST_ANSWER = 32, BUFFER = 1 << 16 };
 
 static struct bandwidth_buffers controller;
 static bool set_up; /* an s was accepted */
 
-static char answers[ROOM];
+static char answers[BUFFER];
 static size_t answered;
 
 /* Output */
@@ -210,7 +210,7 @@ static void answer_e(const struct text *t)
 static void answer(const uint8_t *line, size_t length)
 {
     struct text t = {line + 1, line + length};
-    if (answered > ROOM - LONGEST_ANSWER)
+    if (answered > BUFFER - LONGEST_ANSWER)
         write_answers();
     switch (length == 0 || length > LONGEST_LINE ? 0 : line[0]) {
     case 's':
@@ -252,7 +252,7 @@ static size_t answer_lines(uint8_t *text, size_t length)
 
 int main(void)
 {
-    static uint8_t text[ROOM];
+    static uint8_t text[BUFFER];
     size_t kept = 0;
     ssize_t count;
     while ((count = read(STDIN_FILENO, text + kept, sizeof text - kept)) != 0) {

@@ -16,7 +16,7 @@
 #include <sys/wait.h>
 #include <unistd.h>
 
-enum { REPETITIONS = 11, MOST_PROGRAMS = 3 };
+enum { REPETITIONS = 11, MAX_PROGRAMS = 3 };
 
 static void fail(const char *what)
 {
@@ -74,10 +74,10 @@ static double count_lines(const char *file)
 
 int main(int argc, char **argv)
 {
-    static double times[MOST_PROGRAMS][REPETITIONS];
-    double taken[MOST_PROGRAMS];
+    static double times[MAX_PROGRAMS][REPETITIONS];
+    double taken[MAX_PROGRAMS];
     int programs = (argc - 2) / 2, best = 1;
-    if (argc % 2 || programs < 2 || programs > MOST_PROGRAMS)
+    if (argc % 2 || programs < 2 || programs > MAX_PROGRAMS)
         return 2;
     for (int r = -1; r < REPETITIONS; r++) /* the first one warms up */
         for (int p = 0; p < programs; p++)

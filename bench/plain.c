@@ -24,11 +24,11 @@
 enum {
     REFUSED_SETUP = 1,
     REFUSED_LENGTH,
-    REFUSED_UNLAWFUL,
+    REFUSED_STATE,
     REFUSED_SIZE,
     REFUSED_OFFSET,
     REFUSED_VALUE,
-    REFUSED_ID,
+    REFUSED_IDENTIFIER,
     REFUSED_BLOCK
 };
 
@@ -68,9 +68,15 @@ struct monitor {
     uint8_t *counters, *events;
 };
 
+/* The registers that calls change; limit is bw_alloc or block_mask. */
+struct registers {
+    uint64_t mon_ctl, mon_ctr_val, alloc_ctl, limit;
+};
+
 struct bandwidth_record {
     uint64_t nbwblks, mrbwb, nr, na, nm, q, w;
-    uint64_t mon_ctl, mon_ctr_val, alloc_ctl, bw_alloc, pool_given;
+    struct registers registers;
+    uint64_t pool_given;
 };
 
 struct bandwidth {
@@ -82,7 +88,7 @@ struct bandwidth {
 
 struct capacity_record {
     uint64_t ncblks, nr, na, nm, w;
-    uint64_t mon_ctl, mon_ctr_val, alloc_ctl, block_mask;
+    struct registers registers;
 };
 
 struct capacity {
@@ -183,30 +189,13 @@ static bool monitor_lengths_good(uint64_t nm, size_t counters_len,
 
 /* Check 3 */
 
-static bool monitor_registers_ok(uint64_t mon_ctl, uint64_t na)
+/* No bit outside the fields; limit has none but these. */
+static bool registers_ok(const struct registers *g, uint64_t na, uint64_t limit)
 {
-    uint64_t held = na == 1 ? CTL_AT | CTL_ATV : 0;
-    return (mon_ctl & ~((MON_CTL_FIELDS & ~held) | CTL_STATUS)) == 0;
-}
-
-static bool alloc_ctl_ok(uint64_t alloc_ctl, uint64_t na)
-{
-    uint64_t held = na == 1 ? CTL_AT : 0;
-    return (alloc_ctl & ~((ALLOC_CTL_FIELDS & ~held) | CTL_STATUS)) == 0;
-}
-
-static bool bandwidth_registers_ok(const struct bandwidth_record *r)
-{
-    return monitor_registers_ok(r->mon_ctl, r->na) &&
-           alloc_ctl_ok(r->alloc_ctl, r->na) &&
-           (r->bw_alloc & ~(uint64_t)SETTING) == 0;
-}
-
-static bool capacity_registers_ok(const struct capacity_record *r)
-{
-    return monitor_registers_ok(r->mon_ctl, r->na) &&
-           alloc_ctl_ok(r->alloc_ctl, r->na) &&
-           (r->block_mask & ~block_bits(r->ncblks)) == 0;
+    uint64_t mon_ctl = na == 1 ? MON_CTL_FIELDS & ~(CTL_AT | CTL_ATV) : MON_CTL_FIELDS;
+    uint64_t alloc_ctl = na == 1 ? ALLOC_CTL_FIELDS & ~CTL_AT : ALLOC_CTL_FIELDS;
+    return (g->mon_ctl & ~(mon_ctl | CTL_STATUS)) == 0 &&
+           (g->alloc_ctl & ~(alloc_ctl | CTL_STATUS)) == 0 && (g->limit & ~limit) == 0;
 }
 
 static bool pool_ok(const struct bandwidth *b)
@@ -342,12 +331,14 @@ static uint64_t capacity_attach(struct capacity *c, CAPACITY_SLICES())
     return 0;
 }
 
+/* The slices handed on. A read casts const away, and nothing is written there. */
 #define BANDWIDTH_PASSED                                                       \
-    record, record_len, active, active_len, configured, configured_len, used,  \
-        used_len, counters, counters_len, events, events_len
+    (uint8_t *)record, record_len, (uint8_t *)active, active_len,              \
+        (uint8_t *)configured, configured_len, (uint8_t *)used, used_len,      \
+        (uint8_t *)counters, counters_len, (uint8_t *)events, events_len
 #define CAPACITY_PASSED                                                        \
-    record, record_len, masks, masks_len, counters, counters_len, events,      \
-        events_len
+    (uint8_t *)record, record_len, (uint8_t *)masks, masks_len,                \
+        (uint8_t *)counters, counters_len, (uint8_t *)events, events_len
 
 /* Checks 1 to 3. */
 static uint64_t bandwidth_open(struct bandwidth *b, BANDWIDTH_SLICES())
@@ -360,9 +351,9 @@ static uint64_t bandwidth_open(struct bandwidth *b, BANDWIDTH_SLICES())
     uint64_t refusal = bandwidth_attach(b, BANDWIDTH_PASSED);
     if (refusal)
         return refusal;
-    if (!bandwidth_registers_ok(&b->r) || !BANDWIDTH_TABLES_OK(b) ||
+    if (!registers_ok(&b->r.registers, b->r.na, SETTING) || !BANDWIDTH_TABLES_OK(b) ||
         !pool_ok(b))
-        return REFUSED_UNLAWFUL;
+        return REFUSED_STATE;
     return 0;
 }
 
@@ -376,8 +367,9 @@ static uint64_t capacity_open(struct capacity *c, CAPACITY_SLICES())
     uint64_t refusal = capacity_attach(c, CAPACITY_PASSED);
     if (refusal)
         return refusal;
-    if (!capacity_registers_ok(&c->r) || !CAPACITY_TABLES_OK(c))
-        return REFUSED_UNLAWFUL;
+    if (!registers_ok(&c->r.registers, c->r.na, block_bits(c->r.ncblks)) ||
+        !CAPACITY_TABLES_OK(c))
+        return REFUSED_STATE;
     return 0;
 }
 
@@ -412,43 +404,29 @@ static uint64_t check_write(uint64_t size, uint64_t offset, uint64_t value)
     return size == 4 && value > UINT32_MAX ? REFUSED_VALUE : 0;
 }
 
-static uint64_t read_part(uint64_t word, uint64_t size, uint64_t offset)
+static uint64_t register_at(const struct registers *g, uint64_t capabilities, uint64_t offset)
 {
+    switch (offset & ~UINT64_C(7)) {
+    case CAPABILITIES:
+        return capabilities;
+    case MON_CTL:
+        return g->mon_ctl;
+    case MON_CTR_VAL:
+        return g->mon_ctr_val;
+    case ALLOC_CTL:
+        return g->alloc_ctl;
+    default:
+        return g->limit;
+    }
+}
+
+static uint64_t read_register(const struct registers *g, uint64_t capabilities, uint64_t size,
+                              uint64_t offset)
+{
+    uint64_t word = register_at(g, capabilities, offset);
     if (size == 8)
         return word;
     return offset % 8 == 0 ? word & UINT32_MAX : word >> 32;
-}
-
-static uint64_t bandwidth_register(const struct bandwidth_record *r, uint64_t offset)
-{
-    switch (offset & ~UINT64_C(7)) {
-    case CAPABILITIES:
-        return 1 | r->nbwblks << 8 | r->mrbwb << 32;
-    case MON_CTL:
-        return r->mon_ctl;
-    case MON_CTR_VAL:
-        return r->mon_ctr_val;
-    case ALLOC_CTL:
-        return r->alloc_ctl;
-    default:
-        return r->bw_alloc;
-    }
-}
-
-static uint64_t capacity_register(const struct capacity_record *r, uint64_t offset)
-{
-    switch (offset & ~UINT64_C(7)) {
-    case CAPABILITIES:
-        return 1 | r->ncblks << 8;
-    case MON_CTL:
-        return r->mon_ctl;
-    case MON_CTR_VAL:
-        return r->mon_ctr_val;
-    case ALLOC_CTL:
-        return r->alloc_ctl;
-    default:
-        return r->block_mask;
-    }
 }
 
 /* Monitoring operations */
@@ -482,9 +460,8 @@ static void config_event(struct monitor *m, uint64_t ctl)
     store64(m->counters, mcid, 0);
 }
 
-/* Performs the operation of a value written to mon_ctl and returns the
- * register's new word; READ_COUNTER also sets *mon_ctr_val. */
-static uint64_t perform_monitor(struct monitor *m, uint64_t value, uint64_t *mon_ctr_val)
+/* Performs the operation of a value written to mon_ctl. */
+static void perform_monitor(struct monitor *m, uint64_t value, struct registers *g)
 {
     uint64_t ctl = value & MON_CTL_FIELDS;
     if (m->na == 1)
@@ -494,9 +471,9 @@ static uint64_t perform_monitor(struct monitor *m, uint64_t value, uint64_t *mon
         if (field(ctl, 0, 5) == 1)
             config_event(m, ctl);
         else
-            *mon_ctr_val = load64(m->counters, field(ctl, 8, 12));
+            g->mon_ctr_val = load64(m->counters, field(ctl, 8, 12));
     }
-    return ctl | status << 32;
+    g->mon_ctl = ctl | status << 32;
 }
 
 /* Allocation operations */
@@ -521,7 +498,7 @@ static uint64_t alloc_ctl_fields(uint64_t value, uint64_t na)
 
 static bool holder_good(const struct bandwidth *b, uint64_t pair)
 {
-    uint64_t rbwb = b->r.bw_alloc & RBWB;
+    uint64_t rbwb = b->r.registers.limit & RBWB;
     uint64_t replaced = load32(b->configured, pair) & RBWB;
     return rbwb != 0 && rbwb + b->configured_sum - replaced <= b->r.mrbwb;
 }
@@ -529,7 +506,7 @@ static bool holder_good(const struct bandwidth *b, uint64_t pair)
 static bool sharer_good(const struct bandwidth *b, uint64_t rcid, uint64_t at)
 {
     const uint8_t *row = b->configured + 4 * rcid * b->r.na;
-    uint64_t target = field(b->r.bw_alloc, SHARED_AT_LOW, 3);
+    uint64_t target = field(b->r.registers.limit, SHARED_AT_LOW, 3);
     if (target == at || target >= b->r.na || !is_holder(load32(row, target)))
         return false;
     for (uint64_t other = 0; other < b->r.na; other++) {
@@ -543,7 +520,7 @@ static bool sharer_good(const struct bandwidth *b, uint64_t rcid, uint64_t at)
 /* CONFIG_LIMIT of a pair in range. */
 static uint64_t config_limit(struct bandwidth *b, uint64_t rcid, uint64_t at)
 {
-    uint32_t operand = (uint32_t)b->r.bw_alloc;
+    uint32_t operand = (uint32_t)b->r.registers.limit;
     uint64_t pair = rcid * b->r.na + at;
     if (operand & USE_SHARED) {
         if (!sharer_good(b, rcid, at))
@@ -566,9 +543,9 @@ static void bandwidth_perform_alloc(struct bandwidth *b, uint64_t value)
         if (field(ctl, 0, 5) == 1)
             status = config_limit(b, rcid, at);
         else
-            b->r.bw_alloc = load32(b->configured, rcid * b->r.na + at);
+            b->r.registers.limit = load32(b->configured, rcid * b->r.na + at);
     }
-    b->r.alloc_ctl = ctl | status << 32;
+    b->r.registers.alloc_ctl = ctl | status << 32;
 }
 
 static void capacity_perform_alloc(struct capacity *c, uint64_t value)
@@ -578,13 +555,13 @@ static void capacity_perform_alloc(struct capacity *c, uint64_t value)
     uint64_t status = alloc_status(ctl, c->r.nr, c->r.na);
     if (status == 1) {
         if (field(ctl, 0, 5) == 2)
-            c->r.block_mask = load64(c->masks, pair);
-        else if (c->r.block_mask == 0)
+            c->r.registers.limit = load64(c->masks, pair);
+        else if (c->r.registers.limit == 0)
             status = 5;
         else
-            store64(c->masks, pair, c->r.block_mask);
+            store64(c->masks, pair, c->r.registers.limit);
     }
-    c->r.alloc_ctl = ctl | status << 32;
+    c->r.registers.alloc_ctl = ctl | status << 32;
 }
 
 /* Requests and cache events */
@@ -651,7 +628,7 @@ static uint64_t check_cache_event(const struct capacity *c, uint64_t rcid,
                                   uint64_t mcid, uint64_t block)
 {
     if (rcid >= c->r.nr || mcid >= c->r.nm)
-        return REFUSED_ID;
+        return REFUSED_IDENTIFIER;
     return block >= c->r.ncblks ? REFUSED_BLOCK : 0;
 }
 
@@ -661,7 +638,7 @@ uint64_t NAME(bandwidth_reset)(uint64_t nbwblks, uint64_t mrbwb, uint64_t nr,
                                uint64_t na, uint64_t nm, uint64_t q, uint64_t w,
                                BANDWIDTH_SLICES())
 {
-    struct bandwidth b = {.r = {nbwblks, mrbwb, nr, na, nm, q, w, 0, 0, 0, 0, 0}};
+    struct bandwidth b = {.r = {nbwblks, mrbwb, nr, na, nm, q, w, .pool_given = 0}};
     if (record_len != sizeof b.r || !bandwidth_setup_good(&b.r))
         return REFUSED_SETUP;
     uint64_t refusal = bandwidth_attach(&b, BANDWIDTH_PASSED);
@@ -684,15 +661,12 @@ uint64_t NAME(bandwidth_read)(BANDWIDTH_SLICES(const), uint64_t size,
 {
     struct bandwidth b;
     *value = 0;
-    /* Opening only reads, so dropping const is safe here. */
-    uint64_t refusal = bandwidth_open(
-        &b, (uint8_t *)record, record_len, (uint8_t *)active, active_len,
-        (uint8_t *)configured, configured_len, (uint8_t *)used, used_len,
-        (uint8_t *)counters, counters_len, (uint8_t *)events, events_len);
+    uint64_t refusal = bandwidth_open(&b, BANDWIDTH_PASSED);
     if (!refusal)
         refusal = check_access(size, offset);
     if (!refusal)
-        *value = read_part(bandwidth_register(&b.r, offset), size, offset);
+        *value = read_register(&b.r.registers, 1 | b.r.nbwblks << 8 | b.r.mrbwb << 32, size,
+                               offset);
     return refusal;
 }
 
@@ -707,13 +681,13 @@ uint64_t NAME(bandwidth_write)(BANDWIDTH_SLICES(), uint64_t size,
         return refusal;
     switch (offset) { /* the other registers and halves drop the write */
     case MON_CTL:
-        b.r.mon_ctl = perform_monitor(&b.monitor, value, &b.r.mon_ctr_val);
+        perform_monitor(&b.monitor, value, &b.r.registers);
         break;
     case ALLOC_CTL:
         bandwidth_perform_alloc(&b, value);
         break;
     case ALLOC:
-        b.r.bw_alloc = value & SETTING;
+        b.r.registers.limit = value & SETTING;
         break;
     }
     bandwidth_save(&b);
@@ -730,7 +704,7 @@ uint64_t NAME(bandwidth_request)(BANDWIDTH_SLICES(), uint64_t rcid,
     if (refusal)
         return refusal;
     if (rcid >= b.r.nr || mcid >= b.r.nm)
-        return REFUSED_ID;
+        return REFUSED_IDENTIFIER;
     if (at >= b.r.na)
         at = 0;
     uint64_t row = rcid * b.r.na;
@@ -762,7 +736,7 @@ uint64_t NAME(bandwidth_end_window)(BANDWIDTH_SLICES())
 uint64_t NAME(capacity_reset)(uint64_t ncblks, uint64_t nr, uint64_t na,
                               uint64_t nm, uint64_t w, CAPACITY_SLICES())
 {
-    struct capacity c = {.r = {ncblks, nr, na, nm, w, 0, 0, 0, 0}};
+    struct capacity c = {.r = {ncblks, nr, na, nm, w, .registers = {0}}};
     if (record_len != sizeof c.r || !capacity_setup_good(&c.r))
         return REFUSED_SETUP;
     uint64_t refusal = capacity_attach(&c, CAPACITY_PASSED);
@@ -782,14 +756,11 @@ uint64_t NAME(capacity_read)(CAPACITY_SLICES(const), uint64_t size,
 {
     struct capacity c;
     *value = 0;
-    /* Opening only reads, so dropping const is safe here. */
-    uint64_t refusal = capacity_open(
-        &c, (uint8_t *)record, record_len, (uint8_t *)masks, masks_len,
-        (uint8_t *)counters, counters_len, (uint8_t *)events, events_len);
+    uint64_t refusal = capacity_open(&c, CAPACITY_PASSED);
     if (!refusal)
         refusal = check_access(size, offset);
     if (!refusal)
-        *value = read_part(capacity_register(&c.r, offset), size, offset);
+        *value = read_register(&c.r.registers, 1 | c.r.ncblks << 8, size, offset);
     return refusal;
 }
 
@@ -802,21 +773,21 @@ uint64_t NAME(capacity_write)(CAPACITY_SLICES(), uint64_t size, uint64_t offset,
         refusal = check_write(size, offset, value);
     if (refusal)
         return refusal;
-    uint64_t mask = c.r.block_mask;
+    uint64_t mask = c.r.registers.limit;
     switch (offset) { /* the other registers and halves drop the write */
     case MON_CTL:
-        c.r.mon_ctl = perform_monitor(&c.monitor, value, &c.r.mon_ctr_val);
+        perform_monitor(&c.monitor, value, &c.r.registers);
         break;
     case ALLOC_CTL:
         capacity_perform_alloc(&c, value);
         break;
     case ALLOC:
         mask = size == 8 ? value : (mask & ~(uint64_t)UINT32_MAX) | value;
-        c.r.block_mask = mask & block_bits(c.r.ncblks);
+        c.r.registers.limit = mask & block_bits(c.r.ncblks);
         break;
     case ALLOC + 4:
         mask = (mask & UINT32_MAX) | value << 32;
-        c.r.block_mask = mask & block_bits(c.r.ncblks);
+        c.r.registers.limit = mask & block_bits(c.r.ncblks);
         break;
     }
     capacity_save(&c);

@@ -46,19 +46,14 @@ static uint64_t used_stack(void)
     return (uint64_t)((const char *)stack_at_call - (const char *)word);
 }
 
-/* ---- The calls: each entry point, on a set-up of middle size and on the largest ---- */
+/* ---- The calls: each entry point, on set-ups from the smallest to the largest ---- */
 
-enum { FEW, MOST };
-static const struct { uint64_t nr, na, nm; } sizes[] = {{16, 8, 64}, {256, 8, 256}};
+static const struct { uint64_t nr, na, nm; } sizes[] = {
+    {1, 1, 1}, {4, 2, 4}, {16, 8, 64}, {64, 2, 16}, {43, 3, 100}, {256, 8, 256}};
+enum { SIZES = sizeof sizes / sizeof sizes[0] };
 static uint64_t nr, na, nm, offset, value, out;
 static struct bandwidth_buffers bw;
 static struct capacity_buffers cc;
-
-#define BANDWIDTH_WORDS                                                                   \
-    bw.record, sizeof bw.record, bw.active, nr * na, bw.configured, nr * na, bw.used,     \
-        nr * na, bw.counters, nm, bw.events, nm
-#define CAPACITY_WORDS                                                                    \
-    cc.record, sizeof cc.record, cc.masks, nr * na, cc.counters, nm, cc.events, nm
 
 #define ENTRY(name, ...)                                                                  \
     __attribute__((noinline)) static uint64_t name(void)                                  \
@@ -66,22 +61,18 @@ static struct capacity_buffers cc;
         STACK_POINTER(stack_at_call);                                                     \
         return cbqri_##name(__VA_ARGS__);                                                 \
     }
-/* The entry points for one kind of tables; their names end in the suffix. */
-#define ENTRIES(suffix, bandwidth, capacity)                                              \
-    ENTRY(bandwidth_reset##suffix, 100, 80, nr, na, nm, 64, 24, bandwidth)                \
-    ENTRY(bandwidth_read##suffix, bandwidth, 8, offset, &out)                             \
-    ENTRY(bandwidth_write##suffix, bandwidth, 8, offset, value)                           \
-    ENTRY(bandwidth_request##suffix, bandwidth, 0, 0, 0, 0, 6000, &out)                   \
-    ENTRY(bandwidth_end_window##suffix, bandwidth)                                        \
-    ENTRY(capacity_reset##suffix, 40, nr, na, nm, 24, capacity)                           \
-    ENTRY(capacity_read##suffix, capacity, 8, offset, &out)                               \
-    ENTRY(capacity_write##suffix, capacity, 8, offset, value)                             \
-    ENTRY(capacity_fill##suffix, capacity, 0, 0, 0, 3, &out)                              \
-    ENTRY(capacity_evict##suffix, capacity, 0, 0, 0, 3)
-ENTRIES(, BANDWIDTH_OF(&bw), CAPACITY_OF(&cc))
-ENTRIES(_words, BANDWIDTH_WORDS, CAPACITY_WORDS)
+ENTRY(bandwidth_reset, 100, 80, nr, na, nm, 64, 24, BANDWIDTH_OF(&bw))
+ENTRY(bandwidth_read, BANDWIDTH_OF(&bw), 8, offset, &out)
+ENTRY(bandwidth_write, BANDWIDTH_OF(&bw), 8, offset, value)
+ENTRY(bandwidth_request, BANDWIDTH_OF(&bw), 0, 0, 0, 0, 6000, &out)
+ENTRY(bandwidth_end_window, BANDWIDTH_OF(&bw))
+ENTRY(capacity_reset, 40, nr, na, nm, 24, CAPACITY_OF(&cc))
+ENTRY(capacity_read, CAPACITY_OF(&cc), 8, offset, &out)
+ENTRY(capacity_write, CAPACITY_OF(&cc), 8, offset, value)
+ENTRY(capacity_fill, CAPACITY_OF(&cc), 0, 0, 0, 3, &out)
+ENTRY(capacity_evict, CAPACITY_OF(&cc), 0, 0, 0, 3)
 
-#define NAMED(name) {"cbqri_" #name, name}, {"cbqri_" #name "_words", name##_words}
+#define NAMED(name) {"cbqri_" #name, name}
 static const struct { const char *name; uint64_t (*call)(void); } entries[] = {
     NAMED(bandwidth_reset), NAMED(bandwidth_read), NAMED(bandwidth_write),
     NAMED(bandwidth_request), NAMED(bandwidth_end_window), NAMED(capacity_reset),
@@ -97,10 +88,10 @@ static uint64_t measure(uint64_t (*call)(void))
     return used_stack();
 }
 
-/* The most over every register; bw_alloc or block_mask first, so that CONFIG_LIMIT has an operand. */
-static uint64_t most_used(uint64_t (*call)(void), int size)
+/* The largest over every register; bw_alloc or block_mask first, so that CONFIG_LIMIT has an operand. */
+static uint64_t largest(uint64_t (*call)(void), int size)
 {
-    uint64_t most = 0;
+    uint64_t largest = 0;
     nr = sizes[size].nr;
     na = sizes[size].na;
     nm = sizes[size].nm;
@@ -111,17 +102,23 @@ static uint64_t most_used(uint64_t (*call)(void), int size)
     for (offset = CBQRI_SPAN; offset > 0;) {
         offset -= 8;
         uint64_t used = measure(call);
-        most = used > most ? used : most;
+        largest = used > largest ? used : largest;
     }
-    return most;
+    return largest;
 }
 
 int main(void)
 {
     FIND_BOTTOM();
-    printf("entry point, stack at 128 pairs and 64 MCIDs, stack at 2048 pairs and 256 MCIDs\n");
-    for (unsigned i = 0; i < sizeof entries / sizeof entries[0]; i++)
-        printf("%s %" PRIu64 " %" PRIu64 "\n", entries[i].name, most_used(entries[i].call, FEW),
-               most_used(entries[i].call, MOST));
+    printf("entry point, stack at set-ups of NR x NA x NM:");
+    for (int size = 0; size < SIZES; size++)
+        printf(" %" PRIu64 " x %" PRIu64 " x %" PRIu64, sizes[size].nr, sizes[size].na,
+               sizes[size].nm);
+    for (unsigned i = 0; i < sizeof entries / sizeof entries[0]; i++) {
+        printf("\n%s", entries[i].name);
+        for (int size = 0; size < SIZES; size++)
+            printf(" %" PRIu64, largest(entries[i].call, size));
+    }
+    printf("\n");
     return refused != 0;
 }

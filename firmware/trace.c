@@ -1,22 +1,21 @@
 /*
  * The cases of rules P1 to P12 with their numbers, then random calls on both
- * controllers from a fixed seed, each by the function on bytes and, where all
- * tables have whole words, by the one on words too. Its output is the same on
- * every machine: a line for each 100 calls has their 100 answers (0, or the
- * refusal's number) and a checksum of all that the calls so far have handed
- * back and left in record and tables. It ends with 1 where a case has another
- * number, the two functions differ, or some answer never came up.
+ * controllers from a fixed seed. Its output is the same on every machine: a line
+ * for each 100 calls has their 100 answers (0, or the refusal's number) and a
+ * checksum of all that the calls so far have handed back and left in record and
+ * tables. It ends with 1 where a case has another number, or some answer never
+ * came up.
  */
 #include "../bench/calls.h"
-#include "../bench/words.h"
+
+#include "../include/cbqri.h"
 
 #include <inttypes.h>
 #include <stdio.h>
 
 enum { CALLS = 20000, LINE = 100 };
 
-static const struct interface library = INTERFACE("bytes", cbqri_);
-static const struct interface on_words = INTERFACE("words", words_);
+static const struct interface library = INTERFACE("library", cbqri_);
 static int failed;
 
 /* ---- The cases: one controller worked through ---- */
@@ -102,14 +101,11 @@ static void lone_cases(void)
 
 /* ---- The random calls ---- */
 
-struct trace {
-    const char *name;
+static struct trace {
     uint64_t count, checksum;
-    uint64_t answers[5][9]; /* how often each call had each answer */
-    uint64_t on_words[9];   /* how often a call on words had it */
+    uint64_t answers[KINDS][ANSWERS]; /* how often each call had each answer */
     char line[LINE + 1];
-};
-static struct trace bandwidth = {.name = "bandwidth"}, capacity = {.name = "capacity"};
+} traces[CONTROLLERS];
 
 static void add(struct trace *t, const uint8_t *bytes, size_t length)
 {
@@ -117,90 +113,38 @@ static void add(struct trace *t, const uint8_t *bytes, size_t length)
         t->checksum = (t->checksum ^ bytes[i]) * UINT64_C(0x100000001b3);
 }
 
-static void add_all(struct trace *t, const struct slice *list, int count)
+/* One call: what it left, its answer and the number that it handed back. */
+static void trace_call(const struct controller *k, const struct slice *list, const struct call *c)
 {
-    for (int i = 0; i < count; i++)
-        add(t, list[i].at, list[i].length);
-}
-
-/* One call's answer and the number that it handed back. */
-static void note(struct trace *t, enum kind kind, uint64_t answer, uint64_t out)
-{
+    struct trace *t = &traces[k->place];
     uint8_t bytes[8];
+    uint64_t out = 1, answer = k->call(&library, list, c, &out);
+    for (int i = 0; i < k->slices; i++)
+        add(t, list[i].at, list[i].length);
     put_word(bytes, 0, 8, out);
     add(t, bytes, sizeof bytes);
-    failed |= answer > 8;
-    t->answers[kind][answer % 9]++;
-    t->line[t->count++ % LINE] = (char)('0' + answer % 9);
+    failed |= answer >= ANSWERS;
+    t->answers[c->kind][answer % ANSWERS]++;
+    t->line[t->count++ % LINE] = (char)('0' + answer % ANSWERS);
     if (t->count % LINE == 0)
-        printf("%s %5" PRIu64 " %s %016" PRIx64 "\n", t->name, t->count, t->line, t->checksum);
+        printf("%s %5" PRIu64 " %s %016" PRIx64 "\n", k->name, t->count, t->line, t->checksum);
 }
 
-/* A call on words, and whether it answered and left the same as the one on bytes. */
-static void note_words(struct trace *t, uint64_t answer, int same)
+/* The calls by answer; each answer up to the last must have come up. */
+static void sum_up(const struct controller *k)
 {
-    if (!same)
-        printf("%s %5" PRIu64 ": DIFFERS on words\n", t->name, t->count);
-    failed |= !same;
-    t->on_words[answer % 9]++;
-}
-
-static int same_bytes(const void *left, const void *right, size_t length)
-{
-    const uint8_t *a = left, *b = right;
-    while (length > 0 && *a == *b)
-        a++, b++, length--;
-    return length == 0;
-}
-
-static void trace_bandwidth(struct bandwidth_buffers *buffers, const struct call *c)
-{
-    static struct bandwidth_buffers copy;
-    const struct slice list[] = BANDWIDTH_LIST(buffers);
-    copy = *buffers;
-    uint64_t out = 1, answer = call_bandwidth(&library, buffers, c, &out);
-    if (bandwidth_whole_words(&copy)) {
-        uint64_t value = 1, again = call_bandwidth(&on_words, &copy, c, &value);
-        note_words(&bandwidth, again, again == answer && value == out &&
-                                          same_bytes(&copy, buffers, sizeof copy));
-    }
-    add_all(&bandwidth, list, BANDWIDTH_SLICE_COUNT);
-    note(&bandwidth, c->kind, answer, out);
-}
-
-static void trace_capacity(struct capacity_buffers *buffers, const struct call *c)
-{
-    static struct capacity_buffers copy;
-    const struct slice list[] = CAPACITY_LIST(buffers);
-    copy = *buffers;
-    uint64_t out = 1, answer = call_capacity(&library, buffers, c, &out);
-    if (capacity_whole_words(&copy)) {
-        uint64_t value = 1, again = call_capacity(&on_words, &copy, c, &value);
-        note_words(&capacity, again, again == answer && value == out &&
-                                         same_bytes(&copy, buffers, sizeof copy));
-    }
-    add_all(&capacity, list, CAPACITY_SLICE_COUNT);
-    note(&capacity, c->kind, answer, out);
-}
-
-/* The calls by answer; each answer up to the last must have come up, on words too. */
-static void sum_up(const struct trace *t, const char *const names[5], int last)
-{
-    uint64_t seen[9] = {0};
-    for (int kind = 0; kind < 5; kind++) {
-        printf("%s %s:", t->name, names[kind]);
-        for (int answer = 0; answer <= last; answer++) {
+    const struct trace *t = &traces[k->place];
+    uint64_t seen[ANSWERS] = {0};
+    for (int kind = 0; kind < KINDS; kind++) {
+        printf("%s %s:", k->name, k->calls[kind]);
+        for (int answer = 0; answer <= k->last_answer; answer++) {
             printf(" %" PRIu64, t->answers[kind][answer]);
             seen[answer] += t->answers[kind][answer];
         }
         printf("\n");
     }
-    printf("%s, all on words:", t->name);
-    for (int answer = 0; answer <= last; answer++) {
-        printf(" %" PRIu64, t->on_words[answer]);
-        failed |= seen[answer] == 0 || t->on_words[answer] == 0;
-    }
-    printf("\n");
+    for (int answer = 0; answer <= k->last_answer; answer++)
+        failed |= seen[answer] == 0;
 }
 
 int main(void)
@@ -208,12 +152,11 @@ int main(void)
     settings_cases();
     window_cases();
     lone_cases();
-    while (bandwidth.count < CALLS)
-        bandwidth_round(trace_bandwidth);
-    while (capacity.count < CALLS)
-        capacity_round(trace_capacity);
-    sum_up(&bandwidth, (const char *const[]){"reset", "read", "write", "request", "end_window"}, 7);
-    sum_up(&capacity, (const char *const[]){"reset", "read", "write", "fill", "evict"}, 8);
+    for (int i = 0; i < CONTROLLERS; i++)
+        while (traces[i].count < CALLS)
+            make_round(&controllers[i], trace_call);
+    for (int i = 0; i < CONTROLLERS; i++)
+        sum_up(&controllers[i]);
     printf("%s\n", failed ? "FAILED" : "as it should be");
     return failed;
 }

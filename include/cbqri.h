@@ -15,7 +15,8 @@
  * The library keeps nothing of its own. A controller is a small record and a
  * few tables in buffers that you own and lend to each call. Set the buffers up
  * with a reset, then hand the same buffers to every later call. Every call but
- * a reset checks them whole (docs/COST.md says what that costs).
+ * a reset checks them whole (docs/COST.md says what a call costs in time and in
+ * stack).
  *
  * A function takes each buffer as a pointer and a length. A view (struct
  * cbqri_bw, struct cbqri_cc) has them all, and an inline function for each call
@@ -43,9 +44,10 @@
  * Rules for the buffers:
  *
  * - A buffer is a pointer and its length in bytes. Words in it are
- *   little-endian on every host; no alignment is asked. The functions on tables
- *   of words (at the end) take the tables as arrays of numbers instead, and far
- *   less stack.
+ *   little-endian on every host; no alignment is asked. On a little-endian host
+ *   a table may be an array of numbers: uint32_t active[NR * NA] is handed over
+ *   as (uint8_t *)active, sizeof active, and its elements are the words that
+ *   TABLES lists (likewise uint64_t and uint16_t for words of 8 and 2 bytes).
  * - Record, tables and the number that a call hands back must not overlap one
  *   another, and no pointer may be NULL.
  * - Calls on buffers that have no byte in common may run at the same time.
@@ -59,8 +61,9 @@
  *   refuses it (1 or 2), or read the same bytes otherwise. CHANGELOG.md says so.
  *
  * Every function returns 0, or the number of a refusal (below). A refused call
- * has changed no byte of record and tables, and stores 0 as the number that it
- * hands back through a pointer.
+ * has changed no byte of record and tables; the number that it hands back
+ * through a pointer (*value, *granted, *allowed) it sets to 0, so that no number
+ * of an earlier call stays there.
  *
  * Refusals are about the caller: what a driver asks of a register shows in
  * STATUS, and the call that carried its write returns 0. Two of them a driver
@@ -540,109 +543,6 @@ static inline uint64_t cbqri_cc_evict(const struct cbqri_cc *c, uint64_t rcid, u
 {
     return cbqri_capacity_evict(CBQRI_CC_BUFFERS(c), rcid, mcid, at, block);
 }
-
-/* ------------------------------------------------------------------------
- * Both controllers on tables of words
- *
- * Each function above once more, with _words at the end of its name, for
- * firmware and for callers that hold the tables as numbers. Arguments stand in
- * the same order; answers, refusals and all that a call changes are the same.
- * What differs:
- * - A table is an array of numbers in the host's own byte order, aligned as C
- *   aligns its type, and its length is a count of words: NR * NA, or NM.
- *   Refusal 2 is about this count. The record stays little-endian bytes with
- *   its length in bytes.
- * - A table that a call never changes is const.
- * - A call takes at most 1,040 bytes of stack. The functions on bytes take up to
- *   29,440 (bandwidth) and 21,040 (capacity), whatever the set-up, because they
- *   decode the tables there, and take longer for it (docs/COST.md).
- * Take the functions on bytes where the tables must have the same bytes on
- * every host or may lie at any address, and the stack is large; otherwise
- * these. On a little-endian host both may be called in turn on the same tables.
- *
- *     static uint8_t record[CBQRI_BANDWIDTH_RECORD_LEN];
- *     static uint32_t active[NR * NA], configured[NR * NA], used[NR * NA];
- *     static uint64_t counters[NM];
- *     static uint16_t events[NM];
- *     #define BW record, sizeof record, active, NR * NA,                \
- *             configured, NR * NA, used, NR * NA, counters, NM, events, NM
- *
- *     cbqri_bandwidth_reset_words(100, 80, NR, NA, NM, 64, 24, BW);
- *     cbqri_bandwidth_write_words(BW, 8, CBQRI_BW_ALLOC, cbqri_holder(30, 1));
- * ------------------------------------------------------------------------ */
-
-uint64_t cbqri_bandwidth_reset_words(uint64_t nbwblks, uint64_t mrbwb, uint64_t nr, uint64_t na,
-                                     uint64_t nm, uint64_t q, uint64_t w,
-                                     uint8_t *record, size_t record_len,
-                                     uint32_t *active, size_t active_words,
-                                     uint32_t *configured, size_t configured_words,
-                                     uint32_t *used, size_t used_words,
-                                     uint64_t *counters, size_t counters_words,
-                                     uint16_t *events, size_t events_words);
-
-uint64_t cbqri_bandwidth_read_words(const uint8_t *record, size_t record_len,
-                                    const uint32_t *active, size_t active_words,
-                                    const uint32_t *configured, size_t configured_words,
-                                    const uint32_t *used, size_t used_words,
-                                    const uint64_t *counters, size_t counters_words,
-                                    const uint16_t *events, size_t events_words,
-                                    uint64_t size, uint64_t offset, uint64_t *value);
-
-uint64_t cbqri_bandwidth_write_words(uint8_t *record, size_t record_len,
-                                     const uint32_t *active, size_t active_words,
-                                     uint32_t *configured, size_t configured_words,
-                                     const uint32_t *used, size_t used_words,
-                                     uint64_t *counters, size_t counters_words,
-                                     uint16_t *events, size_t events_words,
-                                     uint64_t size, uint64_t offset, uint64_t value);
-
-uint64_t cbqri_bandwidth_request_words(uint8_t *record, size_t record_len,
-                                       const uint32_t *active, size_t active_words,
-                                       const uint32_t *configured, size_t configured_words,
-                                       uint32_t *used, size_t used_words,
-                                       uint64_t *counters, size_t counters_words,
-                                       const uint16_t *events, size_t events_words,
-                                       uint64_t rcid, uint64_t mcid, uint64_t at, uint64_t kind,
-                                       uint32_t bytes, uint64_t *granted);
-
-uint64_t cbqri_bandwidth_end_window_words(uint8_t *record, size_t record_len,
-                                          uint32_t *active, size_t active_words,
-                                          const uint32_t *configured, size_t configured_words,
-                                          uint32_t *used, size_t used_words,
-                                          const uint64_t *counters, size_t counters_words,
-                                          const uint16_t *events, size_t events_words);
-
-uint64_t cbqri_capacity_reset_words(uint64_t ncblks, uint64_t nr, uint64_t na, uint64_t nm,
-                                    uint64_t w,
-                                    uint8_t *record, size_t record_len,
-                                    uint64_t *masks, size_t masks_words,
-                                    uint64_t *counters, size_t counters_words,
-                                    uint16_t *events, size_t events_words);
-
-uint64_t cbqri_capacity_read_words(const uint8_t *record, size_t record_len,
-                                   const uint64_t *masks, size_t masks_words,
-                                   const uint64_t *counters, size_t counters_words,
-                                   const uint16_t *events, size_t events_words,
-                                   uint64_t size, uint64_t offset, uint64_t *value);
-
-uint64_t cbqri_capacity_write_words(uint8_t *record, size_t record_len,
-                                    uint64_t *masks, size_t masks_words,
-                                    uint64_t *counters, size_t counters_words,
-                                    uint16_t *events, size_t events_words,
-                                    uint64_t size, uint64_t offset, uint64_t value);
-
-uint64_t cbqri_capacity_fill_words(uint8_t *record, size_t record_len,
-                                   const uint64_t *masks, size_t masks_words,
-                                   uint64_t *counters, size_t counters_words,
-                                   const uint16_t *events, size_t events_words,
-                                   uint64_t rcid, uint64_t mcid, uint64_t at, uint64_t block,
-                                   uint64_t *allowed);
-
-uint64_t cbqri_capacity_evict_words(uint8_t *record, size_t record_len,
-                                    const uint64_t *masks, size_t masks_words,
-                                    uint64_t *counters, size_t counters_words,
-                                    const uint16_t *events, size_t events_words,
-                                    uint64_t rcid, uint64_t mcid, uint64_t at, uint64_t block);
 
 #ifdef __cplusplus
 }

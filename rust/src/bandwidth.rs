@@ -1,3 +1,4 @@
+use crate::common::{buffers, controller};
 use crate::parts::{number, pair, word, ByMcid, ByPair, Flags, Hex};
 use crate::{ffi, registers, table_len, Counter, Refusal, Setting};
 
@@ -31,23 +32,24 @@ pub enum Kind {
     Write,
 }
 
-/// Record and tables of a bandwidth controller as little-endian bytes, in the
-/// layout of `cbqri.h`. `Debug` shows their lengths; see [`Bandwidth`] for what
-/// they say.
-#[derive(Clone, PartialEq, Eq)]
-pub struct BandwidthBuffers {
-    /// Set-up, registers and the bytes that the pool gave.
-    pub record: Vec<u8>,
-    /// Settings in force, 4 bytes for each pair of RCID and AT.
-    pub active: Vec<u8>,
-    /// Settings configured, likewise.
-    pub configured: Vec<u8>,
-    /// Bytes used of the reservations, likewise.
-    pub used: Vec<u8>,
-    /// Counter words, 8 bytes for each MCID.
-    pub counters: Vec<u8>,
-    /// Counter settings, 2 bytes for each MCID.
-    pub events: Vec<u8>,
+buffers! {
+    /// Record and tables of a bandwidth controller as little-endian bytes, in the
+    /// layout of `cbqri.h`. `Debug` shows their lengths; see [`Bandwidth`] for what
+    /// they say.
+    BandwidthBuffers {
+        /// Set-up, registers and the bytes that the pool gave.
+        record,
+        /// Settings in force, 4 bytes for each pair of RCID and AT.
+        active,
+        /// Settings configured, likewise.
+        configured,
+        /// Bytes used of the reservations, likewise.
+        used,
+        /// Counter words, 8 bytes for each MCID.
+        counters,
+        /// Counter settings, 2 bytes for each MCID.
+        events,
+    }
 }
 
 impl BandwidthBuffers {
@@ -64,40 +66,6 @@ impl BandwidthBuffers {
     }
 }
 
-/// Calls a function of the C interface with all buffers in their order.
-///
-/// Safety of each use: the pointers and lengths are those of live vectors that
-/// do not overlap, and the numbers handed back go to locals.
-macro_rules! call {
-    ($name:ident($($before:expr),*; $b:expr, $ptr:ident; $($after:expr),*)) => {
-        Refusal::check(unsafe {
-            ffi::$name(
-                $($before,)*
-                $b.record.$ptr(), $b.record.len(),
-                $b.active.$ptr(), $b.active.len(),
-                $b.configured.$ptr(), $b.configured.len(),
-                $b.used.$ptr(), $b.used.len(),
-                $b.counters.$ptr(), $b.counters.len(),
-                $b.events.$ptr(), $b.events.len(),
-                $($after,)*
-            )
-        })
-    };
-}
-
-impl fmt::Debug for BandwidthBuffers {
-    fn fmt(&self, f: &mut fmt::Formatter<'_>) -> fmt::Result {
-        f.debug_struct("BandwidthBuffers")
-            .field("record", &self.record.len())
-            .field("active", &self.active.len())
-            .field("configured", &self.configured.len())
-            .field("used", &self.used.len())
-            .field("counters", &self.counters.len())
-            .field("events", &self.events.len())
-            .finish()
-    }
-}
-
 /// A bandwidth controller. `Debug` shows set-up, registers, the settings that
 /// are set and the counters that were used.
 ///
@@ -109,10 +77,54 @@ impl fmt::Debug for BandwidthBuffers {
 /// assert!(shown.contains("mrbwb: 8"));
 /// assert!(shown.contains("active: {(0, 0): Holder { rbwb: 8, mweight: 1 }, (0, 1): Sharer"));
 /// ```
+///
+/// A driver's accesses:
+///
+/// ```
+/// use cbqri::{registers as reg, Bandwidth, BandwidthSetup, Kind, Status};
+///
+/// # fn main() -> Result<(), cbqri::Refusal> {
+/// let setup = BandwidthSetup { nbwblks: 100, mrbwb: 80, nr: 4, na: 2, nm: 4, q: 64, w: 24 };
+/// let mut bw = Bandwidth::new(setup)?;
+/// // MCID 2 counts all bytes.
+/// let ctl = reg::mon_ctl(reg::CONFIG_EVENT, 0, 2, reg::EVENT_BYTES, false);
+/// bw.write(4, reg::MON_CTL, ctl)?;
+/// assert_eq!(Status::of_mon(bw.read(8, reg::MON_CTL)?), Some(Status::Ok));
+/// bw.request(0, 2, 0, Kind::Write, 300)?;
+/// bw.write(4, reg::MON_CTL, reg::mon_ctl(reg::READ_COUNTER, 0, 2, 0, false))?;
+/// assert_eq!(bw.read(8, reg::MON_CTR_VAL)?, 300);
+/// # Ok(())
+/// # }
+/// ```
+///
+/// Saved buffers:
+///
+/// ```
+/// use cbqri::{Bandwidth, BandwidthSetup, Refusal};
+///
+/// let setup = BandwidthSetup { nbwblks: 9, mrbwb: 9, nr: 2, na: 1, nm: 1, q: 1, w: 24 };
+/// let bw = Bandwidth::new(setup).unwrap();
+/// let mut saved = bw.buffers().clone();
+/// assert_eq!(Bandwidth::from_buffers(saved.clone()).as_ref(), Ok(&bw));
+///
+/// saved.active[0] = 10; // more than MRBWB
+/// assert_eq!(Bandwidth::from_buffers(saved.clone()).err(), Some(Refusal::State));
+/// saved.used.pop();
+/// assert_eq!(Bandwidth::from_buffers(saved).err(), Some(Refusal::Length));
+/// ```
 #[derive(Clone, PartialEq, Eq)]
 pub struct Bandwidth {
     buffers: BandwidthBuffers,
 }
+
+controller!(
+    Bandwidth,
+    BandwidthSetup,
+    BandwidthBuffers,
+    cbqri_bandwidth_read,
+    cbqri_bandwidth_write,
+    Flags { invalid: registers::BANDWIDTH_INVALID, overflowed: registers::BANDWIDTH_OVF }
+);
 
 impl fmt::Debug for Bandwidth {
     fn fmt(&self, f: &mut fmt::Formatter<'_>) -> fmt::Result {
@@ -135,60 +147,17 @@ impl fmt::Debug for Bandwidth {
 }
 
 impl Bandwidth {
-    /// A controller after a reset with this set-up.
+    /// A controller after a reset with this set-up: RCID 0 with AT 0 holds MRBWB
+    /// blocks with Mweight 1, its other ATs share AT 0, and nothing else is set.
     ///
     /// # Errors
     ///
     /// [`Refusal::Setup`].
     pub fn new(setup: BandwidthSetup) -> Result<Bandwidth, Refusal> {
         let mut buffers = BandwidthBuffers::new(&setup);
-        let s = &setup;
-        call!(cbqri_bandwidth_reset(s.nbwblks, s.mrbwb, s.nr, s.na, s.nm, s.q, s.w;
-            buffers, as_mut_ptr;))?;
+        let BandwidthSetup { nbwblks, mrbwb, nr, na, nm, q, w } = setup;
+        ffi::cbqri_bandwidth_reset(&mut buffers, nbwblks, mrbwb, nr, na, nm, q, w)?;
         Ok(Bandwidth { buffers })
-    }
-
-    /// Resets the controller with this set-up: RCID 0 with AT 0 holds MRBWB
-    /// blocks with Mweight 1, its other ATs share AT 0, and nothing else is
-    /// set.
-    ///
-    /// # Errors
-    ///
-    /// [`Refusal::Setup`]; the controller then stays as it was.
-    pub fn reset(&mut self, setup: BandwidthSetup) -> Result<(), Refusal> {
-        *self = Bandwidth::new(setup)?;
-        Ok(())
-    }
-
-    /// A controller from saved buffers.
-    ///
-    /// # Errors
-    ///
-    /// [`Refusal::Setup`], [`Refusal::Length`], [`Refusal::State`].
-    ///
-    /// ```
-    /// use cbqri::{Bandwidth, BandwidthSetup, Refusal};
-    ///
-    /// let setup = BandwidthSetup { nbwblks: 9, mrbwb: 9, nr: 2, na: 1, nm: 1, q: 1, w: 24 };
-    /// let bw = Bandwidth::new(setup).unwrap();
-    /// let mut saved = bw.buffers().clone();
-    /// assert_eq!(Bandwidth::from_buffers(saved.clone()).as_ref(), Ok(&bw));
-    ///
-    /// saved.active[0] = 10; // more than MRBWB
-    /// assert_eq!(Bandwidth::from_buffers(saved.clone()).err(), Some(Refusal::State));
-    /// saved.used.pop();
-    /// assert_eq!(Bandwidth::from_buffers(saved).err(), Some(Refusal::Length));
-    /// ```
-    pub fn from_buffers(buffers: BandwidthBuffers) -> Result<Bandwidth, Refusal> {
-        let controller = Bandwidth { buffers };
-        controller.read(8, registers::CAPABILITIES)?;
-        Ok(controller)
-    }
-
-    /// Record and tables, to be saved (with [`crate::VERSION`]) or looked at.
-    #[must_use]
-    pub fn buffers(&self) -> &BandwidthBuffers {
-        &self.buffers
     }
 
     /// The set-up of the last reset.
@@ -210,7 +179,7 @@ impl Bandwidth {
     /// is no such pair.
     #[must_use]
     pub fn active(&self, rcid: u64, at: u64) -> Option<Setting> {
-        Setting::of(self.word_of_pair(&self.buffers.active, rcid, at)?)
+        Setting::of(self.word_of_pair(&self.buffers.active, 4, rcid, at)?)
     }
 
     /// The setting configured for a pair, which comes into force when the
@@ -233,69 +202,18 @@ impl Bandwidth {
     /// ```
     #[must_use]
     pub fn configured(&self, rcid: u64, at: u64) -> Option<Setting> {
-        Setting::of(self.word_of_pair(&self.buffers.configured, rcid, at)?)
+        Setting::of(self.word_of_pair(&self.buffers.configured, 4, rcid, at)?)
     }
 
     /// Bytes that a pair used of its reservation in this window; `None` if
     /// there is no such pair.
     #[must_use]
     pub fn used(&self, rcid: u64, at: u64) -> Option<u64> {
-        self.word_of_pair(&self.buffers.used, rcid, at)
-    }
-
-    /// The counter of an MCID; `None` if there is no such MCID.
-    #[must_use]
-    pub fn counter(&self, mcid: u64) -> Option<Counter> {
-        let flags =
-            Flags { invalid: registers::BANDWIDTH_INVALID, overflowed: registers::BANDWIDTH_OVF };
-        Counter::of(&self.buffers.counters, &self.buffers.events, &flags, mcid)
-    }
-
-    fn word_of_pair(&self, table: &[u8], rcid: u64, at: u64) -> Option<u64> {
-        let BandwidthSetup { nr, na, .. } = self.setup();
-        word(table, pair(nr, na, rcid, at)?, 4)
+        self.word_of_pair(&self.buffers.used, 4, rcid, at)
     }
 
     fn used_of_holder(&self, rcid: u64, at: u64) -> Option<u64> {
         self.used(rcid, at).filter(|used| *used > 0)
-    }
-
-    /// A driver's read of `size` bytes at `offset`.
-    ///
-    /// # Errors
-    ///
-    /// [`Refusal::Size`], [`Refusal::Offset`].
-    pub fn read(&self, size: u64, offset: u64) -> Result<u64, Refusal> {
-        let mut value = 0;
-        call!(cbqri_bandwidth_read(; self.buffers, as_ptr; size, offset, &mut value))?;
-        Ok(value)
-    }
-
-    /// A driver's write of `size` bytes at `offset`, with the operation that it
-    /// performs.
-    ///
-    /// # Errors
-    ///
-    /// [`Refusal::Size`], [`Refusal::Offset`], [`Refusal::Value`].
-    ///
-    /// ```
-    /// use cbqri::{registers as reg, Bandwidth, BandwidthSetup, Kind, Status};
-    ///
-    /// # fn main() -> Result<(), cbqri::Refusal> {
-    /// let setup = BandwidthSetup { nbwblks: 100, mrbwb: 80, nr: 4, na: 2, nm: 4, q: 64, w: 24 };
-    /// let mut bw = Bandwidth::new(setup)?;
-    /// // MCID 2 counts all bytes.
-    /// let ctl = reg::mon_ctl(reg::CONFIG_EVENT, 0, 2, reg::EVENT_BYTES, false);
-    /// bw.write(4, reg::MON_CTL, ctl)?;
-    /// assert_eq!(Status::of_mon(bw.read(8, reg::MON_CTL)?), Some(Status::Ok));
-    /// bw.request(0, 2, 0, Kind::Write, 300)?;
-    /// bw.write(4, reg::MON_CTL, reg::mon_ctl(reg::READ_COUNTER, 0, 2, 0, false))?;
-    /// assert_eq!(bw.read(8, reg::MON_CTR_VAL)?, 300);
-    /// # Ok(())
-    /// # }
-    /// ```
-    pub fn write(&mut self, size: u64, offset: u64, value: u64) -> Result<(), Refusal> {
-        call!(cbqri_bandwidth_write(; self.buffers, as_mut_ptr; size, offset, value))
     }
 
     /// A request for so many bytes; the result is how many are granted. An AT
@@ -326,8 +244,8 @@ impl Bandwidth {
     ) -> Result<u64, Refusal> {
         let kind = u64::from(kind == Kind::Write);
         let mut granted = 0;
-        call!(cbqri_bandwidth_request(; self.buffers, as_mut_ptr;
-            rcid, mcid, at, kind, bytes, &mut granted))?;
+        let buffers = &mut self.buffers;
+        ffi::cbqri_bandwidth_request(buffers, rcid, mcid, at, kind, bytes, &mut granted)?;
         Ok(granted)
     }
 
@@ -349,6 +267,6 @@ impl Bandwidth {
     /// assert_eq!(bw.request(0, 0, 0, Kind::Read, 99), Ok(10));
     /// ```
     pub fn end_window(&mut self) -> Result<(), Refusal> {
-        call!(cbqri_bandwidth_end_window(; self.buffers, as_mut_ptr;))
+        ffi::cbqri_bandwidth_end_window(&mut self.buffers)
     }
 }

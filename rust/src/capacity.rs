@@ -1,3 +1,4 @@
+use crate::common::{buffers, controller};
 use crate::parts::{number, pair, word, ByMcid, ByPair, Flags, Hex};
 use crate::{ffi, registers, table_len, Counter, Refusal};
 
@@ -18,19 +19,20 @@ pub struct CapacitySetup {
     pub w: u64,
 }
 
-/// Record and tables of a capacity controller as little-endian bytes, in the
-/// layout of `cbqri.h`. `Debug` shows their lengths; see [`Capacity`] for what
-/// they say.
-#[derive(Clone, PartialEq, Eq)]
-pub struct CapacityBuffers {
-    /// Set-up and registers.
-    pub record: Vec<u8>,
-    /// Block masks, 8 bytes for each pair of RCID and AT.
-    pub masks: Vec<u8>,
-    /// Counter words, 8 bytes for each MCID.
-    pub counters: Vec<u8>,
-    /// Counter settings, 2 bytes for each MCID.
-    pub events: Vec<u8>,
+buffers! {
+    /// Record and tables of a capacity controller as little-endian bytes, in the
+    /// layout of `cbqri.h`. `Debug` shows their lengths; see [`Capacity`] for what
+    /// they say.
+    CapacityBuffers {
+        /// Set-up and registers.
+        record,
+        /// Block masks, 8 bytes for each pair of RCID and AT.
+        masks,
+        /// Counter words, 8 bytes for each MCID.
+        counters,
+        /// Counter settings, 2 bytes for each MCID.
+        events,
+    }
 }
 
 impl CapacityBuffers {
@@ -44,42 +46,29 @@ impl CapacityBuffers {
     }
 }
 
-/// Calls a function of the C interface with all buffers in their order.
-///
-/// Safety of each use: the pointers and lengths are those of live vectors that
-/// do not overlap, and the numbers handed back go to locals.
-macro_rules! call {
-    ($name:ident($($before:expr),*; $b:expr, $ptr:ident; $($after:expr),*)) => {
-        Refusal::check(unsafe {
-            ffi::$name(
-                $($before,)*
-                $b.record.$ptr(), $b.record.len(),
-                $b.masks.$ptr(), $b.masks.len(),
-                $b.counters.$ptr(), $b.counters.len(),
-                $b.events.$ptr(), $b.events.len(),
-                $($after,)*
-            )
-        })
-    };
-}
-
-impl fmt::Debug for CapacityBuffers {
-    fn fmt(&self, f: &mut fmt::Formatter<'_>) -> fmt::Result {
-        f.debug_struct("CapacityBuffers")
-            .field("record", &self.record.len())
-            .field("masks", &self.masks.len())
-            .field("counters", &self.counters.len())
-            .field("events", &self.events.len())
-            .finish()
-    }
-}
-
 /// A capacity controller. `Debug` shows set-up, registers, the masks that are
 /// not 0 and the counters that were used.
+///
+/// ```
+/// use cbqri::{registers as reg, Capacity, CapacitySetup};
+///
+/// let cc = Capacity::new(CapacitySetup { ncblks: 40, nr: 4, na: 2, nm: 4, w: 24 }).unwrap();
+/// assert_eq!(cc.read(8, reg::CAPABILITIES), Ok(0x2801));
+/// assert_eq!(cc.read(4, reg::CAPABILITIES + 4), Ok(0));
+/// ```
 #[derive(Clone, PartialEq, Eq)]
 pub struct Capacity {
     buffers: CapacityBuffers,
 }
+
+controller!(
+    Capacity,
+    CapacitySetup,
+    CapacityBuffers,
+    cbqri_capacity_read,
+    cbqri_capacity_write,
+    Flags { invalid: registers::CAPACITY_INVALID, overflowed: 0 }
+);
 
 impl fmt::Debug for Capacity {
     fn fmt(&self, f: &mut fmt::Formatter<'_>) -> fmt::Result {
@@ -99,44 +88,17 @@ impl fmt::Debug for Capacity {
 }
 
 impl Capacity {
-    /// A controller after a reset with this set-up.
+    /// A controller after a reset with this set-up: RCID 0 has every block for each
+    /// AT, and nothing else is set.
     ///
     /// # Errors
     ///
     /// [`Refusal::Setup`].
     pub fn new(setup: CapacitySetup) -> Result<Capacity, Refusal> {
         let mut buffers = CapacityBuffers::new(&setup);
-        let s = &setup;
-        call!(cbqri_capacity_reset(s.ncblks, s.nr, s.na, s.nm, s.w; buffers, as_mut_ptr;))?;
+        let CapacitySetup { ncblks, nr, na, nm, w } = setup;
+        ffi::cbqri_capacity_reset(&mut buffers, ncblks, nr, na, nm, w)?;
         Ok(Capacity { buffers })
-    }
-
-    /// Resets the controller with this set-up: RCID 0 has every block for each
-    /// AT, and nothing else is set.
-    ///
-    /// # Errors
-    ///
-    /// [`Refusal::Setup`]; the controller then stays as it was.
-    pub fn reset(&mut self, setup: CapacitySetup) -> Result<(), Refusal> {
-        *self = Capacity::new(setup)?;
-        Ok(())
-    }
-
-    /// A controller from saved buffers.
-    ///
-    /// # Errors
-    ///
-    /// [`Refusal::Setup`], [`Refusal::Length`], [`Refusal::State`].
-    pub fn from_buffers(buffers: CapacityBuffers) -> Result<Capacity, Refusal> {
-        let controller = Capacity { buffers };
-        controller.read(8, registers::CAPABILITIES)?;
-        Ok(controller)
-    }
-
-    /// Record and tables, to be saved (with [`crate::VERSION`]) or looked at.
-    #[must_use]
-    pub fn buffers(&self) -> &CapacityBuffers {
-        &self.buffers
     }
 
     /// The set-up of the last reset.
@@ -158,44 +120,7 @@ impl Capacity {
     /// ```
     #[must_use]
     pub fn mask(&self, rcid: u64, at: u64) -> Option<u64> {
-        let CapacitySetup { nr, na, .. } = self.setup();
-        word(&self.buffers.masks, pair(nr, na, rcid, at)?, 8)
-    }
-
-    /// The counter of an MCID; `None` if there is no such MCID.
-    #[must_use]
-    pub fn counter(&self, mcid: u64) -> Option<Counter> {
-        let flags = Flags { invalid: registers::CAPACITY_INVALID, overflowed: 0 };
-        Counter::of(&self.buffers.counters, &self.buffers.events, &flags, mcid)
-    }
-
-    /// A driver's read of `size` bytes at `offset`.
-    ///
-    /// # Errors
-    ///
-    /// [`Refusal::Size`], [`Refusal::Offset`].
-    ///
-    /// ```
-    /// use cbqri::{registers as reg, Capacity, CapacitySetup};
-    ///
-    /// let cc = Capacity::new(CapacitySetup { ncblks: 40, nr: 4, na: 2, nm: 4, w: 24 }).unwrap();
-    /// assert_eq!(cc.read(8, reg::CAPABILITIES), Ok(0x2801));
-    /// assert_eq!(cc.read(4, reg::CAPABILITIES + 4), Ok(0));
-    /// ```
-    pub fn read(&self, size: u64, offset: u64) -> Result<u64, Refusal> {
-        let mut value = 0;
-        call!(cbqri_capacity_read(; self.buffers, as_ptr; size, offset, &mut value))?;
-        Ok(value)
-    }
-
-    /// A driver's write of `size` bytes at `offset`, with the operation that it
-    /// performs.
-    ///
-    /// # Errors
-    ///
-    /// [`Refusal::Size`], [`Refusal::Offset`], [`Refusal::Value`].
-    pub fn write(&mut self, size: u64, offset: u64, value: u64) -> Result<(), Refusal> {
-        call!(cbqri_capacity_write(; self.buffers, as_mut_ptr; size, offset, value))
+        self.word_of_pair(&self.buffers.masks, 8, rcid, at)
     }
 
     /// The cache wants to fill a block; the result is whether it may. If so, a
@@ -226,8 +151,7 @@ impl Capacity {
     /// ```
     pub fn fill(&mut self, rcid: u64, mcid: u64, at: u64, block: u64) -> Result<bool, Refusal> {
         let mut allowed = 0;
-        call!(cbqri_capacity_fill(; self.buffers, as_mut_ptr;
-            rcid, mcid, at, block, &mut allowed))?;
+        ffi::cbqri_capacity_fill(&mut self.buffers, rcid, mcid, at, block, &mut allowed)?;
         Ok(allowed != 0)
     }
 
@@ -253,6 +177,6 @@ impl Capacity {
     /// # }
     /// ```
     pub fn evict(&mut self, rcid: u64, mcid: u64, at: u64, block: u64) -> Result<(), Refusal> {
-        call!(cbqri_capacity_evict(; self.buffers, as_mut_ptr; rcid, mcid, at, block))
+        ffi::cbqri_capacity_evict(&mut self.buffers, rcid, mcid, at, block)
     }
 }

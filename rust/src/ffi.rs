@@ -1,55 +1,63 @@
-//! The C interface of libcbqri.a.
+//! The C interface of libcbqri.a, over the buffers of a controller.
 
-/// Declares functions whose buffers are pointer and length, in turn.
-macro_rules! interface {
-    ($(fn $name:ident([$($before:ident),*], $kind:tt [$($buffer:ident $length:ident),*],
-        [$($after:ident: $type:ty),*]);)*) => {
-        extern "C" {
-            $(pub fn $name(
-                $($before: u64,)*
-                $($buffer: interface!(@ $kind), $length: usize,)*
-                $($after: $type,)*
-            ) -> u64;)*
+use crate::{BandwidthBuffers, CapacityBuffers, Refusal};
+
+/// A function of the C interface. Its arguments are the numbers of a set-up, each buffer as pointer
+/// and length, and the call's own.
+macro_rules! function {
+    ($buffers:ident [$($field:ident)*] $kind:tt $name:ident($($number:ident),*; $($own:ident: $type:ty),*)) => {
+        #[allow(clippy::too_many_arguments)] // as many as the C function has
+        pub(crate) fn $name(
+            buffers: function!(@reference $kind $buffers),
+            $($number: u64,)*
+            $($own: $type,)*
+        ) -> Result<(), Refusal> {
+            extern "C" {
+                fn $name(
+                    $($number: u64,)*
+                    $($field: function!(@pointer $kind), _: usize,)*
+                    $($own: $type,)*
+                ) -> u64;
+            }
+            // SAFETY: pointers and lengths are those of vectors that live and do not overlap, and the
+            // number that is handed back goes to a variable of the caller's.
+            Refusal::check(unsafe {
+                $name(
+                    $($number,)*
+                    $(function!(@address $kind buffers.$field), buffers.$field.len(),)*
+                    $($own,)*
+                )
+            })
         }
     };
-    (@ mut) => { *mut u8 };
-    (@ const) => { *const u8 };
+    (@reference const $buffers:ident) => { &$buffers };
+    (@reference mut $buffers:ident) => { &mut $buffers };
+    (@pointer const) => { *const u8 };
+    (@pointer mut) => { *mut u8 };
+    (@address const $vector:expr) => { $vector.as_ptr() };
+    (@address mut $vector:expr) => { $vector.as_mut_ptr() };
 }
 
-interface! {
-    fn cbqri_bandwidth_reset([nbwblks, mrbwb, nr, na, nm, q, w],
-        mut [record record_len, active active_len, configured configured_len, used used_len,
-            counters counters_len, events events_len],
-        []);
-    fn cbqri_bandwidth_read([],
-        const [record record_len, active active_len, configured configured_len, used used_len,
-            counters counters_len, events events_len],
-        [size: u64, offset: u64, value: *mut u64]);
-    fn cbqri_bandwidth_write([],
-        mut [record record_len, active active_len, configured configured_len, used used_len,
-            counters counters_len, events events_len],
-        [size: u64, offset: u64, value: u64]);
-    fn cbqri_bandwidth_request([],
-        mut [record record_len, active active_len, configured configured_len, used used_len,
-            counters counters_len, events events_len],
-        [rcid: u64, mcid: u64, at: u64, kind: u64, bytes: u32, granted: *mut u64]);
-    fn cbqri_bandwidth_end_window([],
-        mut [record record_len, active active_len, configured configured_len, used used_len,
-            counters counters_len, events events_len],
-        []);
-    fn cbqri_capacity_reset([ncblks, nr, na, nm, w],
-        mut [record record_len, masks masks_len, counters counters_len, events events_len],
-        []);
-    fn cbqri_capacity_read([],
-        const [record record_len, masks masks_len, counters counters_len, events events_len],
-        [size: u64, offset: u64, value: *mut u64]);
-    fn cbqri_capacity_write([],
-        mut [record record_len, masks masks_len, counters counters_len, events events_len],
-        [size: u64, offset: u64, value: u64]);
-    fn cbqri_capacity_fill([],
-        mut [record record_len, masks masks_len, counters counters_len, events events_len],
-        [rcid: u64, mcid: u64, at: u64, block: u64, allowed: *mut u64]);
-    fn cbqri_capacity_evict([],
-        mut [record record_len, masks masks_len, counters counters_len, events events_len],
-        [rcid: u64, mcid: u64, at: u64, block: u64]);
+macro_rules! bandwidth {
+    ($($rest:tt)*) => {
+        function!(BandwidthBuffers [record active configured used counters events] $($rest)*);
+    };
 }
+
+macro_rules! capacity {
+    ($($rest:tt)*) => { function!(CapacityBuffers [record masks counters events] $($rest)*); };
+}
+
+bandwidth!(mut cbqri_bandwidth_reset(nbwblks, mrbwb, nr, na, nm, q, w;));
+bandwidth!(const cbqri_bandwidth_read(; size: u64, offset: u64, value: &mut u64));
+bandwidth!(mut cbqri_bandwidth_write(; size: u64, offset: u64, value: u64));
+bandwidth!(mut cbqri_bandwidth_request(; rcid: u64, mcid: u64, at: u64, kind: u64, bytes: u32,
+    granted: &mut u64));
+bandwidth!(mut cbqri_bandwidth_end_window(;));
+
+capacity!(mut cbqri_capacity_reset(ncblks, nr, na, nm, w;));
+capacity!(const cbqri_capacity_read(; size: u64, offset: u64, value: &mut u64));
+capacity!(mut cbqri_capacity_write(; size: u64, offset: u64, value: u64));
+capacity!(mut cbqri_capacity_fill(; rcid: u64, mcid: u64, at: u64, block: u64,
+    allowed: &mut u64));
+capacity!(mut cbqri_capacity_evict(; rcid: u64, mcid: u64, at: u64, block: u64));

@@ -52,6 +52,7 @@
 
 mod bandwidth;
 mod capacity;
+mod common;
 mod ffi;
 mod parts;
 pub mod registers;

@@ -1,5 +1,5 @@
 //! Cases whose expected numbers were written by hand from the papers. Each is run on the model, so
-//! that the model is tested too, and through the C interface by its functions on bytes and on words.
+//! that the model is tested too, and through the C interface.
 
 mod bandwidth;
 mod capacity;
@@ -14,8 +14,7 @@ mod sweep;
 #[derive(Clone, Copy, Debug, PartialEq, Eq)]
 pub enum Side {
     Model,
-    Bytes,
-    Words,
+    Library,
 }
 
 /// How many unmet expectations are printed on each side.
@@ -26,13 +25,11 @@ pub struct Report {
     side: Side,
     expectations: u64,
     failed: u64,
-    /// Calls on bytes where a table was no whole number of words.
-    skipped: u64,
 }
 
 impl Report {
     fn new(side: Side) -> Report {
-        Report { side, expectations: 0, failed: 0, skipped: 0 }
+        Report { side, expectations: 0, failed: 0 }
     }
 
     fn expect(&mut self, name: &str, got: u64, expected: u64) {
@@ -61,13 +58,10 @@ fn all(side: Side) -> Report {
 
 /// Runs every case on each side.
 pub fn run() -> bool {
-    let reports = [Side::Model, Side::Bytes, Side::Words].map(all);
+    let reports = [Side::Model, Side::Library].map(all);
     for report in &reports {
-        let Report { side, expectations, failed, skipped } = report;
+        let Report { side, expectations, failed } = report;
         println!("cases on {side:?}: {expectations} expectations, {failed} not met");
-        if *skipped > 0 {
-            println!("  {skipped} calls on bytes: a table was no whole number of words");
-        }
     }
     reports.iter().all(|report| report.failed == 0)
 }

@@ -6,23 +6,12 @@ pub mod listing;
 
 use std::collections::BTreeMap;
 
+use crate::controller::Controller;
 use crate::model::access::{ALLOC_CTL, MON_CTL};
 use crate::model::registers::STATUS;
+use crate::model::{Answer, Checked};
 
 pub type Labels = Vec<String>;
-
-/// The two kinds of tables that the C interface takes.
-pub const KINDS: [&str; 2] = ["bytes", "words"];
-
-/// What was shown on one kind of tables.
-pub fn on(kind: &str, labels: &Labels) -> Labels {
-    labels.iter().map(|label| format!("{label}, on {kind}")).collect()
-}
-
-/// What must be shown on both.
-pub fn on_both(labels: Labels) -> Labels {
-    KINDS.iter().flat_map(|kind| on(kind, &labels)).collect()
-}
 
 #[derive(Default)]
 pub struct Coverage {
@@ -30,8 +19,6 @@ pub struct Coverage {
     pub calls: u64,
     /// Calls after which the ledger's claims were checked.
     pub claimed: u64,
-    /// Calls that had no counterpart on words: some table was no whole number of them.
-    pub skipped: u64,
     counts: BTreeMap<String, u64>,
 }
 
@@ -50,7 +37,6 @@ impl Coverage {
     pub fn print(&self, controller: &str) {
         let (lists, calls, claimed) = (self.lists, self.calls, self.claimed);
         println!("{controller}: {calls} calls in {lists} lists, claims checked after {claimed}");
-        println!("  each on bytes and on words, but {} on bytes alone", self.skipped);
         self.print_counts();
     }
 
@@ -69,17 +55,18 @@ fn outcome(call: &str, refusal: u64) -> String {
     }
 }
 
-/// What a call showed: the number of its refusal and, for 3, what is not well formed; or what it did.
-fn shown(
-    call: &str,
-    refusal: u64,
-    fault: impl FnOnce() -> Option<&'static str>,
-    accepted: impl FnOnce() -> Labels,
+/// What a call showed: the number of its refusal and, for 3, what is not well formed; or what it
+/// changed.
+pub fn labels<C: Controller>(
+    before: &C::State,
+    call: &C::Call,
+    answer: Answer,
+    after: &C::State,
 ) -> Labels {
-    let mut labels = vec![outcome(call, refusal)];
-    match refusal {
-        0 => labels.extend(accepted()),
-        3 => labels.push(format!("refused 3 for {}", fault().unwrap_or("nothing"))),
+    let mut labels = vec![outcome(C::call_name(call), answer.refusal)];
+    match answer.refusal {
+        0 => labels.extend(C::accepted(before, call, answer.value, after)),
+        3 => labels.push(format!("refused 3 for {}", before.fault().unwrap_or("nothing"))),
         _ => {}
     }
     labels

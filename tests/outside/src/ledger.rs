@@ -5,23 +5,80 @@
 pub mod bandwidth;
 pub mod capacity;
 
-use crate::model::access;
+use crate::model::access::{self, Part};
 use crate::model::monitor::{mon_status, setting_of};
-use crate::model::registers::{CONFIG_EVENT, DONE, EVT_ID, MCID, OP};
-use crate::model::{Answer, CommonCall, Sizes};
+use crate::model::registers::{
+    alloc_ctl_fields, mon_ctl_fields, CONFIG_EVENT, DONE, EVT_ID, MCID, OP,
+};
+use crate::model::{Answer, Common, CommonCall, Sizes};
+#[cfg(test)]
+use crate::model::{Checked, Performs};
 
 /// What follows the calls of one controller.
 pub trait Ledger: Sized {
-    type Call: CommonCall;
+    type Setup: Sizes;
+    type Call: CommonCall<Setup = Self::Setup>;
     type State;
 
-    fn after_reset(setup: &<Self::Call as CommonCall>::Setup) -> Self;
+    /// bw_alloc or block_mask, and the last event that is known.
+    const OPERAND: &'static str;
+    const LAST_EVENT: u64;
 
-    /// Follows an accepted call and the value that it handed back.
-    fn accepted(&mut self, call: &Self::Call, value: u64) -> Result<(), String>;
+    fn after_reset(setup: &Self::Setup) -> Self;
+
+    fn setup(&self) -> &Self::Setup;
+    fn operand(&self) -> u64;
+    fn write_operand(&mut self, part: Part, value: u64);
+
+    /// An operation of alloc_ctl, its STATUS worked out over the ledger's words.
+    fn operate(&mut self, fields: u64);
+
+    /// A counter that an operation of mon_ctl set: with an event it starts again at 0.
+    fn set_counter(&mut self, set: CounterSet);
+
+    /// Follows an accepted call that this controller alone has, and the value that it handed back.
+    fn own(&mut self, call: &Self::Call, value: u64) -> Result<(), String>;
 
     /// All claims, after any call of the list.
     fn check(&self, state: &Self::State) -> Result<(), String>;
+
+    /// Follows an accepted call and the value that it handed back.
+    fn accepted(&mut self, call: &Self::Call, answered: u64) -> Result<(), String> {
+        match call.common() {
+            Common::Reset(setup) => *self = Self::after_reset(setup),
+            Common::Read { size, offset } => return self.claim_read(size, offset, answered),
+            Common::Write { size, offset, value } => self.write(size, offset, value),
+            Common::Own => return self.own(call, answered),
+        }
+        Ok(())
+    }
+
+    fn write(&mut self, size: u64, offset: u64, value: u64) {
+        let na = self.setup().na();
+        match (access::register(offset), access::part(size, offset)) {
+            (access::OPERAND, part) => self.write_operand(part, value),
+            (_, Part::High) => {}
+            (access::ALLOC_CTL, _) => self.operate(alloc_ctl_fields(value, na)),
+            (access::MON_CTL, _) => {
+                let fields = mon_ctl_fields(value, na);
+                if let Some(set) = counter_set(fields, self.setup(), Self::LAST_EVENT) {
+                    self.set_counter(set);
+                }
+            }
+            _ => {}
+        }
+    }
+
+    /// A read of bw_alloc or block_mask gives the ledger's word; another register is not claimed
+    /// here.
+    fn claim_read(&self, size: u64, offset: u64, value: u64) -> Result<(), String> {
+        if access::register(offset) != access::OPERAND {
+            return Ok(());
+        }
+        let expected = access::read_part(self.operand(), access::part(size, offset));
+        let text = || format!("{} read {value:#x}, not {expected:#x}", Self::OPERAND);
+        claim(value == expected, text)
+    }
 
     /// Follows one call; a refused one changes nothing.
     fn observe(&mut self, call: &Self::Call, answer: Answer) -> Result<(), String> {
@@ -48,22 +105,8 @@ pub fn follow<L: Ledger>(
     }
 }
 
-/// A read of bw_alloc or block_mask gives the ledger's word; another register is not claimed here.
-fn claim_operand(
-    name: &str,
-    word: u64,
-    (size, offset): (u64, u64),
-    value: u64,
-) -> Result<(), String> {
-    if access::register(offset) != access::OPERAND {
-        return Ok(());
-    }
-    let expected = access::read_part(word, access::part(size, offset));
-    claim(value == expected, || format!("{name} read {value:#x}, not {expected:#x}"))
-}
-
 /// A counter that an operation of mon_ctl set, and whether it starts again at 0.
-struct CounterSet {
+pub struct CounterSet {
     mcid: usize,
     setting: u16,
     starts: bool,
@@ -86,4 +129,16 @@ fn claim(holds: bool, text: impl FnOnce() -> String) -> Result<(), String> {
     } else {
         Err(format!("ledger: {}", text()))
     }
+}
+
+/// One call on a state and in its ledger, and the claims after it.
+#[cfg(test)]
+fn make<L>(state: &mut L::State, ledger: &mut L, call: &L::Call) -> Result<(), String>
+where
+    L: Ledger,
+    L::State: Performs<Call = L::Call>,
+{
+    let answer = state.perform(&L::State::lengths(ledger.setup()), call);
+    ledger.observe(call, answer)?;
+    ledger.check(state)
 }

@@ -1,6 +1,5 @@
 //! Tests of the CBQRI controllers from outside: every call is made on a separately written model
-//! and through the C interface of libcbqri.a, by its functions on bytes and those on words, and all
-//! that they hand back is compared.
+//! and through the C interface of libcbqri.a, and all that both hand back is compared.
 //!
 //!     outside cases                           the papers' worked examples, with numbers by hand
 //!     outside run [--calls N] [--seed N]      lists of calls on each controller
@@ -27,7 +26,7 @@ use std::process::ExitCode;
 use std::time::{Duration, Instant};
 
 use controller::{Bandwidth, Capacity, Controller};
-use coverage::{on_both, Coverage, Labels};
+use coverage::{Coverage, Labels};
 
 const DEFAULT_CALLS: u64 = 500_000;
 const DEFAULT_INPUTS: u64 = 3_000;
@@ -87,7 +86,7 @@ fn run_one<C: Controller>(seed: u64, calls: u64) -> bool {
     }
     coverage.print(C::NAME);
     println!("  seed {seed}, {:.1} s", start.elapsed().as_secs_f64());
-    nothing_missing(&coverage, on_both(C::required())) && coverage.calls >= calls
+    nothing_missing(&coverage, C::required()) && coverage.calls >= calls
 }
 
 fn nothing_missing(coverage: &Coverage, required: Labels) -> bool {

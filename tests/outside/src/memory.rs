@@ -1,9 +1,5 @@
 //! The slices that a caller lends to the C interface: the record first, then the tables in order.
-//! Each slice lies between guard words that no call may touch, and begins at any address where a
-//! word of its table may lie.
-
-#[cfg(target_endian = "big")]
-compile_error!("a table of words is taken to have the bytes of its little-endian words");
+//! Each slice lies between guard words that no call may touch, and begins at any address.
 
 /// Guard words before and after each slice.
 const GUARD: usize = 2;
@@ -14,8 +10,6 @@ const WORD: usize = 8;
 pub struct Memory {
     regions: Vec<Region>,
     skew: usize,
-    /// Whether the tables are lent as words, to the functions on words.
-    words: bool,
 }
 
 #[derive(Clone, Debug, PartialEq, Eq)]
@@ -23,17 +17,15 @@ struct Region {
     storage: Vec<u64>,
     start: usize,
     length: usize,
-    /// The bytes of what the C function counts.
-    unit: usize,
 }
 
 impl Region {
-    /// A slice that begins so many units behind its guard.
-    fn new(contents: &[u8], skew: usize, unit: usize) -> Region {
-        let start = GUARD * WORD + skew * unit;
+    /// A slice that begins so many bytes behind its guard.
+    fn new(contents: &[u8], skew: usize) -> Region {
+        let start = GUARD * WORD + skew;
         let words = (start + contents.len() + WORD - 1) / WORD + GUARD;
         let storage = vec![GUARD_WORD; words];
-        let mut region = Region { storage, start, length: contents.len(), unit };
+        let mut region = Region { storage, start, length: contents.len() };
         region.slice_mut().copy_from_slice(contents);
         region
     }
@@ -64,23 +56,12 @@ impl Region {
 }
 
 impl Memory {
-    /// Byte slices with these contents. A skew other than a multiple of 8 makes their addresses odd ones.
+    /// Slices with these contents. With skew 0 all begin at a whole word's address, with another one
+    /// each at another distance from it.
     pub fn new(contents: &[Vec<u8>], skew: usize) -> Memory {
-        let units = vec![1; contents.len()];
-        Memory { regions: regions(contents, skew, &units), skew, words: false }
-    }
-
-    /// A copy whose tables are words of these widths, if each is a whole number of them.
-    pub fn as_words(&self, tables: &[(&str, usize)]) -> Option<Memory> {
-        let mut units: Vec<usize> = tables.iter().map(|&(_, width)| width).collect();
-        units[0] = 1;
-        let whole = self.lengths().iter().zip(&units).all(|(length, unit)| length % unit == 0);
-        let regions = whole.then(|| regions(&self.contents(), self.skew, &units))?;
-        Some(Memory { regions, skew: self.skew, words: true })
-    }
-
-    pub fn is_words(&self) -> bool {
-        self.words
+        let region =
+            |(index, bytes): (usize, &Vec<u8>)| Region::new(bytes, skew * (index + 1) % WORD);
+        Memory { regions: contents.iter().enumerate().map(region).collect(), skew }
     }
 
     pub fn region(&self, index: usize) -> &[u8] {
@@ -110,18 +91,13 @@ impl Memory {
         Memory::new(&contents, self.skew)
     }
 
-    /// Address and count of each slice, for a C function that takes N of them.
+    /// Address and length of each slice, for a C function that takes N of them.
     pub fn slices<const N: usize>(&mut self) -> [(*mut u8, usize); N] {
         let pairs: Vec<_> = self
             .regions
             .iter_mut()
-            .map(|region| (region.slice_mut().as_mut_ptr(), region.length / region.unit))
+            .map(|region| (region.slice_mut().as_mut_ptr(), region.length))
             .collect();
         pairs.try_into().expect("the controller's number of slices")
     }
-}
-
-fn regions(contents: &[Vec<u8>], skew: usize, units: &[usize]) -> Vec<Region> {
-    let places = contents.iter().zip(units).enumerate();
-    places.map(|(index, (bytes, &unit))| Region::new(bytes, skew * (index + 1) % 8, unit)).collect()
 }

@@ -1,11 +1,12 @@
-//! One list of calls, each made on the model and through the C interface, on bytes and on words, and compared.
+//! One list of calls, each made on the model and through the C interface, and compared.
 
 use crate::controller::Controller;
-use crate::coverage::{on, Coverage, KINDS};
+use crate::coverage::{labels, Coverage};
 use crate::generator::{Change, Step};
+use crate::image::Image;
 use crate::ledger::follow;
 use crate::memory::Memory;
-use crate::model::Answer;
+use crate::model::{Answer, Performs};
 
 pub struct Session<C: Controller> {
     memory: Memory,
@@ -18,7 +19,7 @@ impl<C: Controller> Session<C> {
     /// A list begins with memory that is lent; an empty record stands for none.
     pub fn new() -> Session<C> {
         let contents = vec![Vec::new(); C::REGIONS.len()];
-        let state = C::state(&contents);
+        let state = C::State::of(&contents);
         Session { memory: Memory::new(&contents, 0), state, ledger: None }
     }
 
@@ -56,7 +57,7 @@ impl<C: Controller> Session<C> {
 
     /// Other memory, whose contents no call of the list has left.
     fn replace(&mut self, memory: Memory) {
-        self.state = C::state(&memory.contents());
+        self.state = C::State::of(&memory.contents());
         self.memory = memory;
         self.ledger = None;
     }
@@ -70,18 +71,12 @@ impl<C: Controller> Session<C> {
     fn call(&mut self, call: &C::Call, coverage: &mut Coverage) -> Result<Answer, String> {
         let before = self.state.clone();
         let contents = self.memory.contents();
-        let mut words = self.memory.as_words(C::REGIONS);
-        let expected = C::on_model(&mut self.state, &self.memory.lengths(), call);
-        let contents = if expected.refusal == 0 { C::bytes(&self.state) } else { contents };
-        let labels = C::labels(&before, call, expected, &self.state);
-        for memory in std::iter::once(&mut self.memory).chain(&mut words) {
-            compare::<C>(memory, call, expected, &contents)
-                .map_err(|text| format!("on {}: {text}", kind(memory)))?;
-            coverage.note(on(kind(memory), &labels));
-        }
+        let expected = self.state.perform(&self.memory.lengths(), call);
+        let contents = if expected.refusal == 0 { self.state.bytes() } else { contents };
+        compare::<C>(&mut self.memory, call, expected, &contents)?;
+        coverage.note(labels::<C>(&before, call, expected, &self.state));
         follow(&mut self.ledger, call, expected, &self.state)?;
         coverage.calls += 1;
-        coverage.skipped += words.is_none() as u64;
         coverage.claimed += self.ledger.is_some() as u64;
         Ok(expected)
     }
@@ -123,10 +118,6 @@ impl<C: Controller> Session<C> {
         }
         Ok(())
     }
-}
-
-fn kind(memory: &Memory) -> &'static str {
-    KINDS[memory.is_words() as usize]
 }
 
 /// Makes the call through the C interface; what it answers and leaves must be what is expected.

@@ -2,10 +2,11 @@
 
 use super::{Report, Side};
 use crate::controller::{Bandwidth, Capacity, Controller};
+use crate::image::Image;
 use crate::memory::Memory;
 use crate::model::access::{ALLOC_CTL, MON_CTL, OPERAND};
 use crate::model::registers::{CONFIG_LIMIT, READ_LIMIT, STATUS};
-use crate::model::{bandwidth, capacity, Answer, Checked, CommonCall};
+use crate::model::{bandwidth, capacity, Answer, Checked, CommonCall, Performs};
 
 pub struct Case<'a, C: Controller> {
     report: &'a mut Report,
@@ -39,31 +40,22 @@ impl<'a, C: Controller> Case<'a, C> {
     pub fn call(&mut self, call: &C::Call) -> Answer {
         match self.report.side {
             Side::Model => self.on_model(call),
-            Side::Bytes => C::on_library(&mut self.memory, call),
-            Side::Words => self.on_words(call),
+            Side::Library => self.on_library(call),
         }
     }
 
     fn on_model(&mut self, call: &C::Call) -> Answer {
-        let mut state = C::state(&self.memory.contents());
-        let answer = C::on_model(&mut state, &self.memory.lengths(), call);
+        let mut state = C::State::of(&self.memory.contents());
+        let answer = state.perform(&self.memory.lengths(), call);
         if answer.refusal == 0 {
-            self.memory = Memory::new(&C::bytes(&state), SKEW);
+            self.memory = Memory::new(&state.bytes(), SKEW);
         }
         answer
     }
 
-    fn on_words(&mut self, call: &C::Call) -> Answer {
-        let mut words = match self.memory.as_words(C::REGIONS) {
-            Some(words) => words,
-            None => {
-                self.report.skipped += 1;
-                return C::on_library(&mut self.memory, call);
-            }
-        };
-        let answer = C::on_library(&mut words, call);
-        self.report.expect("guards of the words", words.guards_are_intact() as u64, 1);
-        self.memory = Memory::new(&words.contents(), SKEW);
+    fn on_library(&mut self, call: &C::Call) -> Answer {
+        let answer = C::on_library(&mut self.memory, call);
+        self.report.expect("guards", self.memory.guards_are_intact() as u64, 1);
         answer
     }
 

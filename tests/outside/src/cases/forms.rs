@@ -1,10 +1,15 @@
 //! Refusal 3: one word of a good state is changed, and the state is well formed or not.
 
+use super::case::{bandwidth_setup, cache_event, capacity_setup};
 use super::case::{BandwidthCase, CapacityCase, Case};
 use super::Report;
-use crate::controller::Controller;
+use crate::controller::{Bandwidth, Controller};
 use crate::model::bandwidth::slices::*;
-use crate::model::{bandwidth, capacity};
+use crate::model::{bandwidth, capacity, CommonCall};
+
+const TWO_TYPES: [u64; 7] = [100, 80, 4, 2, 4, 64, 24];
+const ONE_TYPE: [u64; 7] = [100, 80, 4, 1, 4, 64, 24];
+const CAPACITY: [u64; 5] = [8, 4, 2, 4, 24];
 
 pub fn run(report: &mut Report) {
     bandwidth_forms(report);
@@ -69,7 +74,7 @@ const SETTING_FORMS: [(&str, u64, u64, u64); 13] = [
 ];
 
 fn good_state(report: &mut Report) -> BandwidthCase<'_> {
-    let mut c = BandwidthCase::after_reset(report, [100, 80, 4, 2, 4, 64, 24]);
+    let mut c = BandwidthCase::after_reset(report, TWO_TYPES);
     c.configure("RCID 0", (0, 0), 30, 1);
     c.configure("RCID 1", (1, 0), 0x0050_001E, 1);
     c.configure("RCID 2", (2, 0), 20, 1);
@@ -80,45 +85,27 @@ fn good_state(report: &mut Report) -> BandwidthCase<'_> {
 
 fn bandwidth_forms(report: &mut Report) {
     let mut c = good_state(report);
-    for form in RECORD_FORMS.iter().chain(&TABLE_FORMS) {
-        try_form(&mut c, form);
-    }
+    let tried = try_bandwidth(TWO_TYPES);
+    let mut try_form = |form: Form| tried.form(&mut c, form);
+    RECORD_FORMS.into_iter().chain(TABLE_FORMS).for_each(&mut try_form);
     for (name, word, at_0, at_1) in SETTING_FORMS {
         for table in [ACTIVE, CONFIGURED] {
-            try_form(&mut c, &(name, table, 4, word, at_0));
-            try_form(&mut c, &(name, table, 5, word, at_1));
+            try_form((name, table, 4, word, at_0));
+            try_form((name, table, 5, word, at_1));
         }
     }
     // rules over several words
     for table in [ACTIVE, CONFIGURED] {
-        try_form(&mut c, &("a shared pair is unset", table, 2, 0, 3));
-        try_form(&mut c, &("a shared pair shares", table, 2, 0x9000_0000, 3));
-        try_form(&mut c, &("81 blocks in all", table, 2, 0x0050_001F, 3));
-        try_form(&mut c, &("79 blocks in all", table, 2, 0x0050_001D, 0));
-        try_form(&mut c, &("65,535 blocks", table, 6, 65_535, 3));
+        try_form(("a shared pair is unset", table, 2, 0, 3));
+        try_form(("a shared pair shares", table, 2, 0x9000_0000, 3));
+        try_form(("81 blocks in all", table, 2, 0x0050_001F, 3));
+        try_form(("79 blocks in all", table, 2, 0x0050_001D, 0));
+        try_form(("65,535 blocks", table, 6, 65_535, 3));
     }
 }
 
-/// Reads and window ends both judge the state; a reset does not.
-fn try_form(c: &mut BandwidthCase, (name, region, index, value, number): &Form) {
-    c.aside(|c| {
-        c.store(*region, *index, *value);
-        let read = bandwidth::Call::Read { size: 8, offset: 0 };
-        if *number == 0 {
-            c.answers(name, &read, 0x0000_0050_0000_6401);
-            c.answers(name, &bandwidth::Call::EndWindow, 0);
-        } else {
-            c.refuses(name, &read, *number);
-            c.refuses(name, &bandwidth::Call::EndWindow, *number);
-        }
-        let setup = super::case::bandwidth_setup([100, 80, 4, 2, 4, 64, 24]);
-        c.answers("a reset takes any record", &bandwidth::Call::Reset(setup), 0);
-        c.read("and all is well", 8, 0x18, 0);
-    });
-}
-
 fn bandwidth_one_type(report: &mut Report) {
-    let mut c = BandwidthCase::after_reset(report, [100, 80, 4, 1, 4, 64, 24]);
+    let mut c = BandwidthCase::after_reset(report, ONE_TYPE);
     let forms: [Form; 6] = [
         ("AT of alloc_ctl is held as 0", RECORD, 9, 0x20, 3),
         ("AT of mon_ctl is held as 0", RECORD, 7, 0x80, 3),
@@ -127,24 +114,43 @@ fn bandwidth_one_type(report: &mut Report) {
         ("no operation stores ATV 1", EVENTS, 0, 0x0801, 3),
         ("event 1", EVENTS, 0, 0x0001, 0),
     ];
-    try_forms(&mut c, &forms, 0x0000_0050_0000_6401, &bandwidth::Call::EndWindow);
+    let tried = try_bandwidth(ONE_TYPE);
+    forms.into_iter().for_each(|form| tried.form(&mut c, form));
 }
 
-/// Each form: a read of capabilities, or a refused call.
-fn try_forms<C: Controller>(c: &mut Case<C>, forms: &[Form], capabilities: u64, call: &C::Call) {
-    for &(name, region, index, value, number) in forms {
+/// What a case does with each form: a call that hands nothing back, and a reset to a set-up.
+struct Try<C: Controller> {
+    setup: C::Setup,
+    capabilities: u64,
+    call: C::Call,
+}
+
+impl<C: Controller> Try<C> {
+    /// A read and the call both judge the state; a reset does not.
+    fn form(&self, c: &mut Case<C>, (name, region, index, value, number): Form) {
         c.aside(|c| {
             c.store(region, index, value);
-            match number {
-                0 => c.read(name, 8, 0, capabilities),
-                _ => c.refuses(name, call, number),
+            let read = C::Call::read(8, 0);
+            if number == 0 {
+                c.answers(name, &read, self.capabilities);
+                c.answers(name, &self.call, 0);
+            } else {
+                c.refuses(name, &read, number);
+                c.refuses(name, &self.call, number);
             }
+            c.answers("a reset takes any record", &C::Call::reset(self.setup), 0);
+            c.read("and all is well", 8, 0x18, 0);
         });
     }
 }
 
+fn try_bandwidth(numbers: [u64; 7]) -> Try<Bandwidth> {
+    let (setup, call) = (bandwidth_setup(numbers), bandwidth::Call::EndWindow);
+    Try { setup, capabilities: 0x0000_0050_0000_6401, call }
+}
+
 fn capacity_forms(report: &mut Report) {
-    let mut c = CapacityCase::after_reset(report, [8, 4, 2, 4, 24]);
+    let mut c = CapacityCase::after_reset(report, CAPACITY);
     // slices: 0 record, 1 masks, 2 counters, 3 events
     let forms: [Form; 19] = [
         ("every field of mon_ctl", 0, 5, 0x7F_1FFF_FFFF, 0),
@@ -167,5 +173,8 @@ fn capacity_forms(report: &mut Report) {
         ("ATV without an event", 3, 2, 0x0800, 3),
         ("AT 2 of 2", 3, 2, 0x0A01, 3),
     ];
-    try_forms(&mut c, &forms, 0x801, &capacity::Call::Read { size: 8, offset: 0 });
+    let (setup, call) =
+        (capacity_setup(CAPACITY), capacity::Call::Evict(cache_event([0, 0, 0, 0])));
+    let tried = Try { setup, capabilities: 0x801, call };
+    forms.into_iter().for_each(|form| tried.form(&mut c, form));
 }

@@ -10,7 +10,7 @@ pub fn run(report: &mut Report) {
 }
 
 // Section 4.5: RCID 3 with AT 0: Rbwb 100, Mweight 16; AT 1: Rbwb 50, Mweight 16; AT 2 shares AT 1.
-// The source gives no set-up. MRBWB 151 leaves room for exactly this beside the one block that RCID 0
+// The source gives no set-up. MRBWB 151 is exactly this and the one block that RCID 0
 // must keep, since rule O4 lets a holder be lowered to 1 and not to 0. Figures 6 and 9, the
 // registers, are lost: the fields stand where rules G4 to G9 put them. "N/A" is stored as 0 (rule O6).
 const THREE_TYPES: [u64; 7] = [160, 151, 4, 3, 2, 64, 32];

@@ -1,13 +1,13 @@
 //! What a run shows of the bandwidth controller.
 
-use super::{common_required, operation, shown, Labels};
+use super::{common_required, operation, Labels};
 use crate::model::access::ALLOC_CTL;
 use crate::model::bandwidth::settings::{is_sharer, weight, RBWB, SHARED_AT, USE_SHARED};
 use crate::model::bandwidth::{holder_of, Call, Request, State, OVF};
 use crate::model::registers::{AT, RCID, STATUS};
-use crate::model::{access_type, Answer, Checked, Sizes};
+use crate::model::{access_type, Sizes};
 
-fn name(call: &Call) -> &'static str {
+pub fn call_name(call: &Call) -> &'static str {
     match call {
         Call::Reset(_) => "reset",
         Call::Read { .. } => "read",
@@ -17,13 +17,7 @@ fn name(call: &Call) -> &'static str {
     }
 }
 
-pub fn labels(before: &State, call: &Call, answer: Answer, after: &State) -> Labels {
-    let accepted = || accepted(before, call, answer.value, after);
-    shown(name(call), answer.refusal, || before.fault(), accepted)
-}
-
-/// What an accepted call did, by the value that it handed back and the states around it.
-fn accepted(before: &State, call: &Call, value: u64, after: &State) -> Labels {
+pub fn accepted(before: &State, call: &Call, value: u64, after: &State) -> Labels {
     let mut labels = Vec::new();
     match call {
         Call::Write { offset, .. } => {

@@ -1,10 +1,9 @@
 //! What a run shows of the capacity controller.
 
-use super::{common_required, operation, shown, Labels};
+use super::{common_required, operation, Labels};
 use crate::model::capacity::{Call, State, INVALID};
-use crate::model::{Answer, Checked};
 
-fn name(call: &Call) -> &'static str {
+pub fn call_name(call: &Call) -> &'static str {
     match call {
         Call::Reset(_) => "reset",
         Call::Read { .. } => "read",
@@ -14,13 +13,7 @@ fn name(call: &Call) -> &'static str {
     }
 }
 
-pub fn labels(before: &State, call: &Call, answer: Answer, after: &State) -> Labels {
-    let accepted = || accepted(before, call, answer.value, after);
-    shown(name(call), answer.refusal, || before.fault(), accepted)
-}
-
-/// What an accepted call did, by the value that it handed back and the states around it.
-fn accepted(before: &State, call: &Call, value: u64, after: &State) -> Labels {
+pub fn accepted(before: &State, call: &Call, value: u64, after: &State) -> Labels {
     let mut labels = Vec::new();
     match call {
         Call::Write { offset, .. } => {

@@ -5,8 +5,7 @@ mod operand;
 mod states;
 
 use super::common;
-use super::setups::bandwidth_outside;
-use super::{Random, Step};
+use super::{setups, Random, Step};
 use crate::controller::Bandwidth;
 use crate::model::access::{ALLOC_CTL, MON_CTR_VAL, OPERAND};
 use crate::model::bandwidth::settings::{reserved, weight};
@@ -59,7 +58,7 @@ pub fn any_call(random: &mut Random, setup: &Setup) -> Call {
             return Call::Request(any_request(random, setup, bytes));
         }
         4 => return Call::EndWindow,
-        5 if random.percent(40) => return Call::Reset(bandwidth_outside(random)),
+        5 if random.percent(40) => return Call::Reset(setups::bandwidth::outside(random)),
         5..=7 => common::any_write(random),
         8 | 9 => common::any_alloc_ctl(random, setup.nr, setup.na),
         _ => common::any_mon_ctl(random, setup.na, setup.nm, LAST_EVENT),

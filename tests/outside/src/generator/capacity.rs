@@ -3,8 +3,7 @@
 mod damage;
 
 use super::common;
-use super::setups::capacity_outside;
-use super::{Change, Random, Step};
+use super::{setups, Change, Random, Step};
 use crate::controller::Capacity;
 use crate::model::access::{ALLOC_CTL, MON_CTR_VAL, OPERAND};
 use crate::model::capacity::{all_blocks, Call, Event, Setup, State, LAST_EVENT};
@@ -50,7 +49,7 @@ pub fn any_call(random: &mut Random, setup: &Setup) -> Call {
         }
         1 => return Call::Fill(any_event(random, setup)),
         2 => return Call::Evict(any_event(random, setup)),
-        3 if random.percent(20) => return Call::Reset(capacity_outside(random)),
+        3 if random.percent(20) => return Call::Reset(setups::capacity::outside(random)),
         3 | 4 => common::any_write(random),
         5 => common::any_alloc_ctl(random, setup.nr, setup.na),
         _ => common::any_mon_ctl(random, setup.na, setup.nm, LAST_EVENT),

@@ -239,6 +239,44 @@ pub fn kept_damage<C>(
     steps
 }
 
+/// A set-up's number in the record becomes one of these, at an end of its range or beyond, or any.
+pub fn damaged_setup(random: &mut Random, index: usize, values: &[u64]) -> Change {
+    let value = if random.percent(20) { random.number() } else { random.pick(values) };
+    Change::word(0, 8, index, value)
+}
+
+/// A counter at or about 2^W, or with this bit, and with flags.
+pub fn damaged_counter(
+    random: &mut Random,
+    region: usize,
+    sizes: &impl Sizes,
+    bit: u64,
+    flags: u64,
+) -> Change {
+    let limit = 1u64 << sizes.w();
+    let value = random.pick(&[0, limit - 1, limit, limit + 1, 1 << bit]);
+    let flags = random.next() & flags;
+    Change::word(region, 8, random.place(sizes.nm()), value | flags)
+}
+
+/// A counter setting: events up to one too many, any AT, ATV, or a bit beyond these.
+pub fn damaged_event(
+    random: &mut Random,
+    region: usize,
+    sizes: &impl Sizes,
+    last_event: u64,
+) -> Change {
+    let value = match random.below(4) {
+        0 => 1 << random.below(16),
+        1 => random.next() & 0xFFFF,
+        _ => {
+            let at = random.below(sizes.na() + 1);
+            random.below(last_event + 2) | at << 8 | random.below(2) << 11
+        }
+    };
+    Change::word(region, 2, random.place(sizes.nm()), value)
+}
+
 /// One bit anywhere in the record or a table.
 pub fn flipped_bit(random: &mut Random, lengths: &[usize]) -> Change {
     let region = random.below(lengths.len() as u64) as usize;

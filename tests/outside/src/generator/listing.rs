@@ -4,7 +4,7 @@ mod spoil;
 
 use super::another_reset;
 use super::bandwidth::{any_call, scenario};
-use super::setups::{bandwidth_in_range, bandwidth_outside};
+use super::setups::bandwidth::{in_range, outside};
 use super::{Random, Step};
 use crate::controller::Bandwidth;
 use crate::model::bandwidth::{Call, Request, Setup, State};
@@ -83,12 +83,12 @@ fn calls(random: &mut Random, state: Option<&State>) -> Vec<Call> {
 /// Mostly an s that is accepted.
 fn first_call(random: &mut Random) -> Call {
     match random.below(10) {
-        0 => Call::Reset(bandwidth_outside(random)),
+        0 => Call::Reset(outside(random)),
         1 | 2 => {
-            let setup = bandwidth_in_range(random);
+            let setup = in_range(random);
             any_call(random, &setup)
         }
-        _ => Call::Reset(bandwidth_in_range(random)),
+        _ => Call::Reset(in_range(random)),
     }
 }
 

@@ -1,7 +1,6 @@
 //! Set-ups: in their ranges with the ends favoured, and with one number out of its range.
 
 use super::Random;
-use crate::model::{bandwidth, capacity};
 
 /// Numbers that both controllers have.
 struct Sizes {
@@ -36,43 +35,8 @@ fn sizes(random: &mut Random) -> Sizes {
     }
 }
 
-pub fn bandwidth_in_range(random: &mut Random) -> bandwidth::Setup {
-    let Sizes { nr, na, nm, w } = sizes(random);
-    let nbwblks = match random.below(8) {
-        0 => 1,
-        1 | 2 => 65_535,
-        3 => random.between(1, 65_535),
-        _ => random.between(2, 200),
-    };
-    let mrbwb = match random.below(10) {
-        0..=2 => nbwblks,
-        3 => 1,
-        _ => random.between((nbwblks + 1) / 2, nbwblks),
-    };
-    let q = match random.below(8) {
-        0 => 1,
-        1 | 2 => 65_536,
-        3 => 65_535,
-        4 => random.between(1, 65_536),
-        _ => random.between(1, 100),
-    };
-    bandwidth::Setup { nbwblks, mrbwb, nr, na, nm, q, w }
-}
-
-pub fn capacity_in_range(random: &mut Random) -> capacity::Setup {
-    let Sizes { nr, na, nm, w } = sizes(random);
-    let ncblks = match random.below(6) {
-        0 => 1,
-        1 => 64,
-        2 => random.pick(&[31, 32, 33, 63]),
-        3 => random.between(1, 64),
-        _ => random.between(2, 16),
-    };
-    capacity::Setup { ncblks, nr, na, nm, w }
-}
-
 /// One beyond either end of a range, or any number at all.
-fn outside(random: &mut Random, low: u64, high: u64) -> u64 {
+fn beyond(random: &mut Random, low: u64, high: u64) -> u64 {
     match random.below(6) {
         0 | 1 => low - 1,
         2 | 3 => high + 1,
@@ -81,30 +45,78 @@ fn outside(random: &mut Random, low: u64, high: u64) -> u64 {
     }
 }
 
-/// A set-up with one number replaced; `random.number()` may still lie in the range.
-pub fn bandwidth_outside(random: &mut Random) -> bandwidth::Setup {
-    let mut setup = bandwidth_in_range(random);
-    match random.below(8) {
-        0 => setup.nbwblks = outside(random, 1, 65_535),
-        1 => setup.mrbwb = outside(random, 1, setup.nbwblks),
-        2 => setup.nr = outside(random, 1, 256),
-        3 => setup.na = outside(random, 1, 8),
-        4 => setup.nm = outside(random, 1, 256),
-        5 => setup.q = outside(random, 1, 65_536),
-        6 => setup.w = outside(random, 24, 62),
-        _ => (setup.nbwblks, setup.mrbwb) = (65_536, random.pick(&[1, 65_535, 65_536])),
+pub mod bandwidth {
+    use super::super::Random;
+    use super::{beyond, sizes, Sizes};
+    use crate::model::bandwidth::Setup;
+
+    pub fn in_range(random: &mut Random) -> Setup {
+        let Sizes { nr, na, nm, w } = sizes(random);
+        let nbwblks = match random.below(8) {
+            0 => 1,
+            1 | 2 => 65_535,
+            3 => random.between(1, 65_535),
+            _ => random.between(2, 200),
+        };
+        let mrbwb = match random.below(10) {
+            0..=2 => nbwblks,
+            3 => 1,
+            _ => random.between((nbwblks + 1) / 2, nbwblks),
+        };
+        let q = match random.below(8) {
+            0 => 1,
+            1 | 2 => 65_536,
+            3 => 65_535,
+            4 => random.between(1, 65_536),
+            _ => random.between(1, 100),
+        };
+        Setup { nbwblks, mrbwb, nr, na, nm, q, w }
     }
-    setup
+
+    /// A set-up with one number replaced; `random.number()` may still lie in the range.
+    pub fn outside(random: &mut Random) -> Setup {
+        let mut setup = in_range(random);
+        match random.below(8) {
+            0 => setup.nbwblks = beyond(random, 1, 65_535),
+            1 => setup.mrbwb = beyond(random, 1, setup.nbwblks),
+            2 => setup.nr = beyond(random, 1, 256),
+            3 => setup.na = beyond(random, 1, 8),
+            4 => setup.nm = beyond(random, 1, 256),
+            5 => setup.q = beyond(random, 1, 65_536),
+            6 => setup.w = beyond(random, 24, 62),
+            _ => (setup.nbwblks, setup.mrbwb) = (65_536, random.pick(&[1, 65_535, 65_536])),
+        }
+        setup
+    }
 }
 
-pub fn capacity_outside(random: &mut Random) -> capacity::Setup {
-    let mut setup = capacity_in_range(random);
-    match random.below(5) {
-        0 => setup.ncblks = outside(random, 1, 64),
-        1 => setup.nr = outside(random, 1, 256),
-        2 => setup.na = outside(random, 1, 8),
-        3 => setup.nm = outside(random, 1, 256),
-        _ => setup.w = outside(random, 24, 62),
+pub mod capacity {
+    use super::super::Random;
+    use super::{beyond, sizes, Sizes};
+    use crate::model::capacity::Setup;
+
+    pub fn in_range(random: &mut Random) -> Setup {
+        let Sizes { nr, na, nm, w } = sizes(random);
+        let ncblks = match random.below(6) {
+            0 => 1,
+            1 => 64,
+            2 => random.pick(&[31, 32, 33, 63]),
+            3 => random.between(1, 64),
+            _ => random.between(2, 16),
+        };
+        Setup { ncblks, nr, na, nm, w }
     }
-    setup
+
+    /// A set-up with one number replaced; `random.number()` may still lie in the range.
+    pub fn outside(random: &mut Random) -> Setup {
+        let mut setup = in_range(random);
+        match random.below(5) {
+            0 => setup.ncblks = beyond(random, 1, 64),
+            1 => setup.nr = beyond(random, 1, 256),
+            2 => setup.na = beyond(random, 1, 8),
+            3 => setup.nm = beyond(random, 1, 256),
+            _ => setup.w = beyond(random, 24, 62),
+        }
+        setup
+    }
 }

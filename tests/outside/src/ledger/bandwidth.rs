@@ -1,13 +1,13 @@
 //! The ledger of the bandwidth controller and the claims of demand 3.
 
-use super::{claim, claim_operand, counter_set};
-use crate::model::access::{self, Part};
+use super::{claim, CounterSet};
+use crate::model::access::Part;
 use crate::model::bandwidth::settings::{all_reserved, named_bits, reserved, stored_form, weight};
 use crate::model::bandwidth::{
     alloc_status, counted, first_settings, holder_of, pool_size, Call, Request, Setup, State, CTR,
     LAST_EVENT, OVF,
 };
-use crate::model::registers::{alloc_ctl_fields, mon_ctl_fields, AT, CONFIG_LIMIT, DONE, OP, RCID};
+use crate::model::registers::{AT, CONFIG_LIMIT, DONE, OP, RCID};
 use crate::model::{access_type, Sizes};
 
 pub struct Ledger {
@@ -42,8 +42,12 @@ impl Window {
 }
 
 impl super::Ledger for Ledger {
+    type Setup = Setup;
     type Call = Call;
     type State = State;
+
+    const OPERAND: &'static str = "bw_alloc";
+    const LAST_EVENT: u64 = LAST_EVENT;
 
     fn after_reset(setup: &Setup) -> Ledger {
         let words = first_settings(setup);
@@ -58,43 +62,20 @@ impl super::Ledger for Ledger {
         }
     }
 
-    fn accepted(&mut self, call: &Call, answered: u64) -> Result<(), String> {
-        match call {
-            Call::Reset(setup) => *self = Ledger::after_reset(setup),
-            Call::Read { size, offset } => {
-                return claim_operand("bw_alloc", self.bw_alloc, (*size, *offset), answered)
-            }
-            Call::Write { size, offset, value } => self.write(*size, *offset, *value),
-            Call::Request(request) => self.request(request, answered),
-            Call::EndWindow => {
-                self.active = self.configured.clone();
-                self.window = Window::open(&self.setup);
-            }
-        }
-        Ok(())
+    fn setup(&self) -> &Setup {
+        &self.setup
     }
 
-    fn check(&self, state: &State) -> Result<(), String> {
-        self.check_settings(state)?;
-        self.check_window()?;
-        self.check_counters(state)
+    fn operand(&self) -> u64 {
+        self.bw_alloc
     }
-}
 
-impl Ledger {
-    fn write(&mut self, size: u64, offset: u64, value: u64) {
-        if access::part(size, offset) == Part::High {
-            return;
-        }
-        match access::register(offset) {
-            access::OPERAND => self.bw_alloc = named_bits(value),
-            access::ALLOC_CTL => self.operate(alloc_ctl_fields(value, self.setup.na)),
-            access::MON_CTL => self.monitor(mon_ctl_fields(value, self.setup.na)),
-            _ => {}
+    fn write_operand(&mut self, part: Part, value: u64) {
+        if part != Part::High {
+            self.bw_alloc = named_bits(value);
         }
     }
 
-    /// An operation of alloc_ctl, its STATUS worked out over the ledger's words.
     fn operate(&mut self, fields: u64) {
         if alloc_status(&self.setup, &self.configured, self.bw_alloc, fields) != DONE {
             return;
@@ -108,17 +89,34 @@ impl Ledger {
         }
     }
 
-    /// An operation of mon_ctl: a counter that is set to an event starts again at 0.
-    fn monitor(&mut self, fields: u64) {
-        if let Some(set) = counter_set(fields, &self.setup, LAST_EVENT) {
-            let tally = &mut self.tallies[set.mcid];
-            tally.setting = set.setting;
-            if set.starts {
-                tally.total = Some(0);
-            }
+    fn set_counter(&mut self, set: CounterSet) {
+        let tally = &mut self.tallies[set.mcid];
+        tally.setting = set.setting;
+        if set.starts {
+            tally.total = Some(0);
         }
     }
 
+    fn own(&mut self, call: &Call, answered: u64) -> Result<(), String> {
+        match call {
+            Call::Request(request) => self.request(request, answered),
+            Call::EndWindow => {
+                self.active = self.configured.clone();
+                self.window = Window::open(&self.setup);
+            }
+            _ => {}
+        }
+        Ok(())
+    }
+
+    fn check(&self, state: &State) -> Result<(), String> {
+        self.check_settings(state)?;
+        self.check_window()?;
+        self.check_counters(state)
+    }
+}
+
+impl Ledger {
     fn request(&mut self, request: &Request, granted: u64) {
         let at = access_type(request.at, self.setup.na);
         if let Some(place) = holder_of(&self.setup, &self.active, request.rcid, at) {
@@ -183,9 +181,8 @@ impl Ledger {
 #[cfg(test)]
 mod tests {
     use super::*;
-    use crate::ledger::Ledger as _;
-    use crate::model::bandwidth::perform;
-    use crate::model::{Answer, Checked};
+    use crate::ledger::{make, Ledger as _};
+    use crate::model::{Answer, Checked, Performs};
 
     const SETUP: Setup = Setup { nbwblks: 100, mrbwb: 80, nr: 4, na: 2, nm: 4, q: 64, w: 24 };
 
@@ -213,12 +210,6 @@ mod tests {
             make(&mut state, &mut ledger, &call).unwrap();
         }
         (state, ledger)
-    }
-
-    fn make(state: &mut State, ledger: &mut Ledger, call: &Call) -> Result<(), String> {
-        let answer = perform(state, &State::lengths(&SETUP), call);
-        ledger.observe(call, answer)?;
-        ledger.check(state)
     }
 
     /// What the claims say of a request that was granted these bytes, the state untouched.
@@ -260,7 +251,7 @@ mod tests {
         make(&mut state, &mut ledger, &write(24, 0x101)).unwrap();
         ledger.observe(&Call::EndWindow, Answer::value(0)).unwrap();
         assert!(ledger.check(&state).is_err(), "the state has seen no window end");
-        perform(&mut state, &State::lengths(&SETUP), &Call::EndWindow);
+        state.perform(&State::lengths(&SETUP), &Call::EndWindow);
         assert!(ledger.check(&state).is_ok());
     }
 

@@ -1,13 +1,12 @@
 //! The ledger of the capacity controller and its claims.
 
-use super::{claim, claim_operand, counter_set};
-use crate::model::access;
-use crate::model::access::Part;
+use super::{claim, CounterSet};
+use crate::model::access::{write_part, Part};
 use crate::model::capacity::{
     all_blocks, alloc_status, counted, first_masks, Call, Event, Setup, State, CTR, INVALID,
     LAST_EVENT,
 };
-use crate::model::registers::{alloc_ctl_fields, mon_ctl_fields, AT, CONFIG_LIMIT, DONE, OP, RCID};
+use crate::model::registers::{AT, CONFIG_LIMIT, DONE, OP, RCID};
 use crate::model::{access_type, Sizes};
 
 pub struct Ledger {
@@ -36,8 +35,12 @@ enum Balance {
 }
 
 impl super::Ledger for Ledger {
+    type Setup = Setup;
     type Call = Call;
     type State = State;
+
+    const OPERAND: &'static str = "block_mask";
+    const LAST_EVENT: u64 = LAST_EVENT;
 
     fn after_reset(setup: &Setup) -> Ledger {
         Ledger {
@@ -48,15 +51,43 @@ impl super::Ledger for Ledger {
         }
     }
 
-    fn accepted(&mut self, call: &Call, answered: u64) -> Result<(), String> {
+    fn setup(&self) -> &Setup {
+        &self.setup
+    }
+
+    fn operand(&self) -> u64 {
+        self.block_mask
+    }
+
+    fn write_operand(&mut self, part: Part, value: u64) {
+        self.block_mask = write_part(self.block_mask, part, value) & all_blocks(&self.setup);
+    }
+
+    fn operate(&mut self, fields: u64) {
+        if alloc_status(&self.setup, self.block_mask, fields) != DONE {
+            return;
+        }
+        let place = self.setup.place(RCID.get(fields), AT.get(fields));
+        if OP.get(fields) == CONFIG_LIMIT {
+            self.masks[place] = self.block_mask;
+        } else {
+            self.block_mask = self.masks[place];
+        }
+    }
+
+    fn set_counter(&mut self, set: CounterSet) {
+        let tally = &mut self.tallies[set.mcid];
+        tally.setting = set.setting;
+        if set.starts {
+            tally.balance = Balance::Blocks(0);
+        }
+    }
+
+    fn own(&mut self, call: &Call, answered: u64) -> Result<(), String> {
         match call {
-            Call::Reset(setup) => *self = Ledger::after_reset(setup),
-            Call::Read { size, offset } => {
-                return claim_operand("block_mask", self.block_mask, (*size, *offset), answered)
-            }
-            Call::Write { size, offset, value } => self.write(*size, *offset, *value),
             Call::Fill(event) => return self.fill(event, answered),
             Call::Evict(event) => self.evict(event),
+            _ => {}
         }
         Ok(())
     }
@@ -79,42 +110,6 @@ impl super::Ledger for Ledger {
 }
 
 impl Ledger {
-    fn write(&mut self, size: u64, offset: u64, value: u64) {
-        let part = access::part(size, offset);
-        match (access::register(offset), part) {
-            (access::OPERAND, _) => {
-                let word = access::write_part(self.block_mask, part, value);
-                self.block_mask = word & all_blocks(&self.setup);
-            }
-            (_, Part::High) => {}
-            (access::ALLOC_CTL, _) => self.operate(alloc_ctl_fields(value, self.setup.na)),
-            (access::MON_CTL, _) => self.monitor(mon_ctl_fields(value, self.setup.na)),
-            _ => {}
-        }
-    }
-
-    fn operate(&mut self, fields: u64) {
-        if alloc_status(&self.setup, self.block_mask, fields) != DONE {
-            return;
-        }
-        let place = self.setup.place(RCID.get(fields), AT.get(fields));
-        if OP.get(fields) == CONFIG_LIMIT {
-            self.masks[place] = self.block_mask;
-        } else {
-            self.block_mask = self.masks[place];
-        }
-    }
-
-    fn monitor(&mut self, fields: u64) {
-        if let Some(set) = counter_set(fields, &self.setup, LAST_EVENT) {
-            let tally = &mut self.tallies[set.mcid];
-            tally.setting = set.setting;
-            if set.starts {
-                tally.balance = Balance::Blocks(0);
-            }
-        }
-    }
-
     /// A fill is allowed exactly where the ledger's mask has the block.
     fn fill(&mut self, event: &Event, allowed: u64) -> Result<(), String> {
         let at = access_type(event.at, self.setup.na);
@@ -146,9 +141,8 @@ impl Ledger {
 #[cfg(test)]
 mod tests {
     use super::*;
-    use crate::ledger::Ledger as _;
-    use crate::model::capacity::perform;
-    use crate::model::{Answer, Checked};
+    use crate::ledger::{make, Ledger as _};
+    use crate::model::Answer;
 
     const SETUP: Setup = Setup { ncblks: 8, nr: 4, na: 2, nm: 4, w: 24 };
 
@@ -170,12 +164,6 @@ mod tests {
             make(&mut state, &mut ledger, &call).unwrap();
         }
         (state, ledger)
-    }
-
-    fn make(state: &mut State, ledger: &mut Ledger, call: &Call) -> Result<(), String> {
-        let answer = perform(state, &State::lengths(&SETUP), call);
-        ledger.observe(call, answer)?;
-        ledger.check(state)
     }
 
     #[test]

@@ -1,9 +1,10 @@
 //! The refusals of both controllers, in checking order.
 
-use super::CommonCall;
+use super::access::{access_refusal, write_refusal};
+use super::{Common, CommonCall};
 
 /// The set-up of a state's controller.
-type Setup<S> = <<S as Checked>::Call as CommonCall>::Setup;
+pub type Setup<S> = <<S as Checked>::Call as CommonCall>::Setup;
 
 /// A controller's record and tables as the checks see them.
 pub trait Checked: Sized {
@@ -24,8 +25,18 @@ pub trait Checked: Sized {
     /// the controller's own calls can leave, and no bit elsewhere.
     fn fault(&self) -> Option<&'static str>;
 
+    /// Refusals of a call that this controller alone has, by its own arguments, or 0.
+    fn own_refusal(setup: &Setup<Self>, call: &Self::Call) -> u64;
+
     /// Refusals 4 and on, which go by the call's own arguments, or 0.
-    fn argument_refusal(setup: &Setup<Self>, call: &Self::Call) -> u64;
+    fn argument_refusal(setup: &Setup<Self>, call: &Self::Call) -> u64 {
+        match call.common() {
+            Common::Reset(_) => 0,
+            Common::Read { size, offset } => access_refusal(size, offset),
+            Common::Write { size, offset, value } => write_refusal(size, offset, value),
+            Common::Own => Self::own_refusal(setup, call),
+        }
+    }
 
     fn well_formed(&self) -> bool {
         self.fault().is_none()

@@ -1,8 +1,7 @@
 //! The listing: a line of text is a call on the bandwidth controller, and its answer is a line too.
 
-use super::bandwidth::{perform, Call, Request, Setup, State};
-use super::Answer;
-use super::Checked;
+use super::bandwidth::{Call, Request, Setup, State};
+use super::{Answer, Checked, Performs};
 
 /// The most bytes that a line has, its newline not counted.
 pub const LONGEST: usize = 80;
@@ -69,7 +68,7 @@ impl Listing {
         match &mut self.state {
             Some(state) => {
                 let lengths = lengths(&state.record.setup);
-                Reply::of(&call, perform(state, &lengths, &call))
+                Reply::of(&call, state.perform(&lengths, &call))
             }
             None => Reply::Bad(BEFORE),
         }
@@ -78,7 +77,7 @@ impl Listing {
     /// A refused s leaves the earlier controller as it is.
     fn reset(&mut self, setup: &Setup, call: &Call) -> Reply {
         let mut fresh = State::default();
-        let answer = perform(&mut fresh, &lengths(setup), call);
+        let answer = fresh.perform(&lengths(setup), call);
         if answer.refusal == 0 {
             self.state = Some(fresh);
         }

@@ -6,12 +6,15 @@ pub mod bandwidth;
 pub mod capacity;
 mod check;
 pub mod field;
+mod limits;
 pub mod listing;
 pub mod monitor;
+mod perform;
 pub mod registers;
 mod sizes;
 
 pub use check::Checked;
+pub use perform::Performs;
 pub use sizes::Sizes;
 
 /// What a call hands back: the refusal's number, 0 for none, and a value that is 0 after a refusal.
@@ -21,14 +24,37 @@ pub struct Answer {
     pub value: u64,
 }
 
+/// A call, as far as both controllers have it.
+pub enum Common<'a, S> {
+    Reset(&'a S),
+    Read {
+        size: u64,
+        offset: u64,
+    },
+    Write {
+        size: u64,
+        offset: u64,
+        value: u64,
+    },
+    /// One that the other controller does not have.
+    Own,
+}
+
 /// The calls that both controllers have.
 pub trait CommonCall {
     type Setup;
     fn reset(setup: Self::Setup) -> Self;
     fn read(size: u64, offset: u64) -> Self;
     fn write(size: u64, offset: u64, value: u64) -> Self;
+    fn common(&self) -> Common<'_, Self::Setup>;
+
     /// The set-up of a reset.
-    fn as_reset(&self) -> Option<&Self::Setup>;
+    fn as_reset(&self) -> Option<&Self::Setup> {
+        match self.common() {
+            Common::Reset(setup) => Some(setup),
+            _ => None,
+        }
+    }
 }
 
 impl Answer {

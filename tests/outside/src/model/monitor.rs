@@ -19,19 +19,8 @@ pub struct Monitor<'a> {
     pub last_event: u64,
     pub counters: &'a mut [u64],
     pub events: &'a mut [u16],
+    pub mon_ctl: &'a mut u64,
     pub mon_ctr_val: &'a mut u64,
-}
-
-impl<'a> Monitor<'a> {
-    pub fn new(
-        sizes: &impl Sizes,
-        last_event: u64,
-        counters: &'a mut [u64],
-        events: &'a mut [u16],
-        mon_ctr_val: &'a mut u64,
-    ) -> Monitor<'a> {
-        Monitor { na: sizes.na(), nm: sizes.nm(), last_event, counters, events, mon_ctr_val }
-    }
 }
 
 /// The first part of counters and their settings that is not well formed; `ctr` is a counter's number.
@@ -51,18 +40,18 @@ pub fn monitor_fault(
     }
 }
 
-/// Performs the operation of a value written to mon_ctl and gives the register's new word.
-pub fn write_mon_ctl(value: u64, monitor: &mut Monitor) -> u64 {
+/// Performs the operation of a value written to mon_ctl.
+pub fn write_mon_ctl(value: u64, mut monitor: Monitor) {
     let fields = mon_ctl_fields(value, monitor.na);
     let status = mon_status(fields, monitor.na, monitor.nm, monitor.last_event);
     if status == DONE {
         let mcid = MCID.get(fields) as usize;
         match OP.get(fields) {
-            CONFIG_EVENT => configure_event(fields, mcid, monitor),
+            CONFIG_EVENT => configure_event(fields, mcid, &mut monitor),
             _ => *monitor.mon_ctr_val = monitor.counters[mcid],
         }
     }
-    fields | STATUS.place(status)
+    *monitor.mon_ctl = fields | STATUS.place(status);
 }
 
 /// STATUS of the operation that mon_ctl's fields ask for.

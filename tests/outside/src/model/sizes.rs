@@ -54,10 +54,13 @@ macro_rules! common {
             fn write(size: u64, offset: u64, value: u64) -> $call {
                 $call::Write { size, offset, value }
             }
-            fn as_reset(&self) -> Option<&$setup> {
-                match self {
-                    $call::Reset(setup) => Some(setup),
-                    _ => None,
+            fn common(&self) -> crate::model::Common<'_, $setup> {
+                use crate::model::Common;
+                match *self {
+                    $call::Reset(ref setup) => Common::Reset(setup),
+                    $call::Read { size, offset } => Common::Read { size, offset },
+                    $call::Write { size, offset, value } => Common::Write { size, offset, value },
+                    _ => Common::Own,
                 }
             }
         }

@@ -1,10 +1,10 @@
 //! Damaged records and tables of the bandwidth controller.
 
-use super::super::common::flipped_bit;
+use super::super::common::{damaged_counter, damaged_event, damaged_setup, flipped_bit};
 use super::super::{Change, Random};
 use crate::model::bandwidth::settings::{all_reserved, reserved};
 use crate::model::bandwidth::slices::{COUNTERS, EVENTS, RECORD, USED};
-use crate::model::bandwidth::{pool_size, Setup, State};
+use crate::model::bandwidth::{pool_size, Setup, State, LAST_EVENT};
 use crate::model::Sizes;
 
 /// A flipped bit, or a word overwritten with a value at the end of what is allowed there.
@@ -15,8 +15,8 @@ pub fn damage(random: &mut Random, state: &State, lengths: &[usize]) -> Change {
         3 => register_word(random, state),
         4 => setting(random, state),
         5 => used(random, state),
-        6 => counter(random, &state.record.setup),
-        _ => event(random, &state.record.setup),
+        6 => damaged_counter(random, COUNTERS, &state.record.setup, 61, 3 << 62),
+        _ => damaged_event(random, EVENTS, &state.record.setup, LAST_EVENT),
     }
 }
 
@@ -32,8 +32,7 @@ fn setup_word(random: &mut Random, setup: &Setup) -> Change {
         5 => vec![0, 1, 65_536, 65_537],
         _ => vec![23, 24, 62, 63, 64],
     };
-    let value = if random.percent(20) { random.number() } else { random.pick(&values) };
-    Change::word(RECORD, 8, index, value)
+    damaged_setup(random, index, &values)
 }
 
 /// A register or the pool's bytes in the record.
@@ -78,21 +77,4 @@ fn used(random: &mut Random, state: &State) -> Change {
     let limit = reserved(state.active[place]) * setup.q;
     let value = random.pick(&[0, 1, limit, limit + 1, limit + setup.q, 0xFFFF_FFFF]);
     Change::word(USED, 4, place, value & 0xFFFF_FFFF)
-}
-
-fn counter(random: &mut Random, setup: &Setup) -> Change {
-    let limit = 1u64 << setup.w;
-    let value = random.pick(&[0, limit - 1, limit, limit + 1, 1 << 61]);
-    let flags = random.below(4) << 62;
-    Change::word(COUNTERS, 8, random.place(setup.nm), value | flags)
-}
-
-/// A counter setting: events 0 to 4, any AT, ATV, or a bit beyond these.
-fn event(random: &mut Random, setup: &Setup) -> Change {
-    let value = match random.below(4) {
-        0 => 1 << random.below(16),
-        1 => random.next() & 0xFFFF,
-        _ => random.below(5) | random.below(setup.na + 1) << 8 | random.below(2) << 11,
-    };
-    Change::word(EVENTS, 2, random.place(setup.nm), value)
 }

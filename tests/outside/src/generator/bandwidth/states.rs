@@ -2,7 +2,7 @@
 
 use super::super::{Random, Step};
 use super::{any_call, damage, Steps};
-use crate::image::bandwidth_bytes;
+use crate::image::Image;
 use crate::model::bandwidth::settings::{reserved, MWEIGHT, RBWB, SHARED_AT, USE_SHARED};
 use crate::model::bandwidth::{pool_size, Record, Setup, State};
 use crate::model::registers::held_at;
@@ -11,7 +11,7 @@ use crate::model::{Checked, Sizes};
 /// Lends such a state, makes calls on it, and at times damages it by one word.
 pub fn loaded(random: &mut Random, setup: &Setup) -> Steps {
     let state = any_state(random, setup);
-    let contents = bandwidth_bytes(&state);
+    let contents = state.bytes();
     let mut steps = vec![Step::Lend { contents, skew: random.below(8) as usize }];
     let lengths = State::lengths(setup);
     for _ in 0..random.between(2, 8) {

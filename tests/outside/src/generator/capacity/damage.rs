@@ -1,8 +1,8 @@
 //! Damaged records and tables of the capacity controller.
 
-use super::super::common::flipped_bit;
+use super::super::common::{damaged_counter, damaged_event, damaged_setup, flipped_bit};
 use super::super::{Change, Random};
-use crate::model::capacity::{all_blocks, Setup};
+use crate::model::capacity::{all_blocks, Setup, LAST_EVENT};
 use crate::model::Sizes;
 
 // the slices by number
@@ -18,8 +18,8 @@ pub fn damage(random: &mut Random, setup: &Setup, lengths: &[usize]) -> Change {
         2 => setup_word(random, setup),
         3 => register_word(random, setup),
         4 => mask(random, setup),
-        5 => counter(random, setup),
-        _ => event(random, setup),
+        5 => damaged_counter(random, COUNTERS, setup, 62, 1 << 63),
+        _ => damaged_event(random, EVENTS, setup, LAST_EVENT),
     }
 }
 
@@ -33,8 +33,7 @@ fn setup_word(random: &mut Random, setup: &Setup) -> Change {
         3 => vec![0, 1, 256, 257],
         _ => vec![23, 24, 62, 63, 64],
     };
-    let value = if random.percent(20) { random.number() } else { random.pick(&values) };
-    Change::word(RECORD, 8, index, value)
+    damaged_setup(random, index, &values)
 }
 
 fn register_word(random: &mut Random, setup: &Setup) -> Change {
@@ -59,21 +58,4 @@ fn mask(random: &mut Random, setup: &Setup) -> Change {
         _ => 1 << random.below(64),
     };
     Change::word(MASKS, 8, random.place(setup.pairs() as u64), value)
-}
-
-fn counter(random: &mut Random, setup: &Setup) -> Change {
-    let limit = 1u64 << setup.w;
-    let value = random.pick(&[0, limit - 1, limit, limit + 1, 1 << 61, 1 << 62]);
-    let flag = random.below(2) << 63;
-    Change::word(COUNTERS, 8, random.place(setup.nm), value | flag)
-}
-
-/// A counter setting: events 0 to 2, any AT, ATV, or a bit beyond these.
-fn event(random: &mut Random, setup: &Setup) -> Change {
-    let value = match random.below(4) {
-        0 => 1 << random.below(16),
-        1 => random.next() & 0xFFFF,
-        _ => random.below(3) | random.below(setup.na + 1) << 8 | random.below(2) << 11,
-    };
-    Change::word(EVENTS, 2, random.place(setup.nm), value)
 }

@@ -5,7 +5,6 @@ use super::settings::{
     all_reserved, bad_share, is_sharer, named_bits, reserved, shared_at, stored_form,
 };
 use super::{Call, Record, Setup, State, LAST_EVENT};
-use crate::model::access::{access_refusal, write_refusal};
 use crate::model::check::Checked;
 use crate::model::monitor::monitor_fault;
 use crate::model::registers::{alloc_ctl_well_formed, mon_ctl_well_formed};
@@ -52,11 +51,8 @@ impl Checked for State {
         }
     }
 
-    /// Refusals 4 to 7: those that go by the call's own arguments.
-    fn argument_refusal(setup: &Setup, call: &Call) -> u64 {
+    fn own_refusal(setup: &Setup, call: &Call) -> u64 {
         match call {
-            Call::Read { size, offset } => access_refusal(*size, *offset),
-            Call::Write { size, offset, value } => write_refusal(*size, *offset, *value),
             Call::Request(request) if request.rcid >= setup.nr || request.mcid >= setup.nm => 7,
             _ => 0,
         }

@@ -4,13 +4,9 @@ use super::settings::{
     all_reserved, bad_share, reserved, stored_form, RBWB, SHARED_AT, USE_SHARED,
 };
 use super::{Setup, State};
-use crate::model::registers::{
-    alloc_ctl_fields, AT, CONFIG_LIMIT, DONE, OP, RCID, READ_LIMIT, STATUS,
-};
-use crate::model::Sizes;
+use crate::model::registers::{alloc_ctl_fields, AT, CONFIG_LIMIT, DONE, OP, RCID, STATUS};
+use crate::model::{limits, Sizes};
 
-/// Stores alloc_ctl's fields and performs the operation. Unless it ends in STATUS 1,
-/// nothing but alloc_ctl changes.
 pub fn write_alloc_ctl(state: &mut State, value: u64) {
     let setup = state.record.setup;
     let fields = alloc_ctl_fields(value, setup.na);
@@ -27,18 +23,9 @@ pub fn write_alloc_ctl(state: &mut State, value: u64) {
 
 /// STATUS of the operation that alloc_ctl's fields ask for, over the configured words.
 pub fn alloc_status(setup: &Setup, configured: &[u32], bw_alloc: u64, fields: u64) -> u64 {
-    let (op, rcid, at) = (OP.get(fields), RCID.get(fields), AT.get(fields));
-    if op != CONFIG_LIMIT && op != READ_LIMIT {
-        2
-    } else if rcid >= setup.nr {
-        3
-    } else if at >= setup.na {
-        4
-    } else if op == CONFIG_LIMIT && bad_operand(setup, configured, rcid, at, bw_alloc) {
-        5
-    } else {
-        DONE
-    }
+    limits::alloc_status(setup, fields, |rcid, at| {
+        bad_operand(setup, configured, rcid, at, bw_alloc)
+    })
 }
 
 /// Whether bw_alloc is a bad operand for a pair, given the other configured settings.

@@ -10,11 +10,10 @@ pub use limits::alloc_status;
 pub use request::{counted, holder_of, pool_size, CTR, OVF};
 pub use reset::first_settings;
 
-use super::access::{self, Part};
-use super::check::Checked;
-use super::monitor::{write_mon_ctl, Monitor};
+use super::access::Part;
+use super::monitor::Monitor;
 use super::registers::VERSION;
-use super::Answer;
+use super::Performs;
 
 /// Bandwidth events: 0 none, 1 all bytes, 2 reads, 3 writes.
 pub const LAST_EVENT: u64 = 3;
@@ -90,52 +89,47 @@ pub struct Request {
     pub bytes: u32,
 }
 
-/// Makes one call. `lengths` are those of the lent slices in bytes: record, then tables in order.
-pub fn perform(state: &mut State, lengths: &[usize], call: &Call) -> Answer {
-    let refusal = state.refusal(lengths, call);
-    if refusal != 0 {
-        return Answer::refused(refusal);
+impl Performs for State {
+    fn after_reset(setup: &Setup) -> State {
+        reset::after_reset(setup)
     }
-    match call {
-        Call::Reset(setup) => *state = reset::after_reset(setup),
-        Call::Read { size, offset } => {
-            return Answer::value(access::read(registers(&state.record), *size, *offset))
-        }
-        Call::Write { size, offset, value } => write(state, *size, *offset, *value),
-        Call::Request(request) => return Answer::value(request::grant(state, request)),
-        Call::EndWindow => end_window(state),
-    }
-    Answer::value(0)
-}
 
-/// The words of the registers in the order of their offsets.
-fn registers(record: &Record) -> [u64; 5] {
-    let capabilities = capabilities(&record.setup);
-    [capabilities, record.mon_ctl, record.mon_ctr_val, record.alloc_ctl, record.bw_alloc]
+    fn registers(&self) -> [u64; 5] {
+        let Record { setup, mon_ctl, mon_ctr_val, alloc_ctl, bw_alloc, .. } = self.record;
+        [capabilities(&setup), mon_ctl, mon_ctr_val, alloc_ctl, bw_alloc]
+    }
+
+    fn monitor(&mut self) -> Monitor<'_> {
+        let State { record: Record { setup, mon_ctl, mon_ctr_val, .. }, counters, events, .. } =
+            self;
+        let (na, nm, last_event) = (setup.na, setup.nm, LAST_EVENT);
+        Monitor { na, nm, last_event, counters, events, mon_ctl, mon_ctr_val }
+    }
+
+    fn write_alloc_ctl(&mut self, value: u64) {
+        limits::write_alloc_ctl(self, value);
+    }
+
+    /// No field lies in the high half.
+    fn write_operand(&mut self, part: Part, value: u64) {
+        if part != Part::High {
+            self.record.bw_alloc = settings::named_bits(value);
+        }
+    }
+
+    fn own(&mut self, call: &Call) -> u64 {
+        match call {
+            Call::Request(request) => return request::grant(self, request),
+            Call::EndWindow => end_window(self),
+            _ => {}
+        }
+        0
+    }
 }
 
 /// VER 7:0, NBWBLKS 23:8, MRBWB 47:32.
 fn capabilities(setup: &Setup) -> u64 {
     VERSION | setup.nbwblks << 8 | setup.mrbwb << 32
-}
-
-fn write(state: &mut State, size: u64, offset: u64, value: u64) {
-    // no register here has a field to store in its high half alone
-    if access::part(size, offset) == Part::High {
-        return;
-    }
-    match access::register(offset) {
-        access::MON_CTL => state.record.mon_ctl = write_mon_ctl(value, &mut monitor(state)),
-        access::ALLOC_CTL => limits::write_alloc_ctl(state, value),
-        access::OPERAND => state.record.bw_alloc = settings::named_bits(value),
-        // capabilities and mon_ctr_val are read-only: accepted, and nothing happens
-        _ => {}
-    }
-}
-
-fn monitor(state: &mut State) -> Monitor<'_> {
-    let State { record, counters, events, .. } = state;
-    Monitor::new(&record.setup, LAST_EVENT, counters, events, &mut record.mon_ctr_val)
 }
 
 fn end_window(state: &mut State) {

@@ -2,8 +2,7 @@
 
 use super::event::CTR;
 use super::limits::all_blocks;
-use super::{Call, Event, Record, Setup, State, LAST_EVENT};
-use crate::model::access::{access_refusal, write_refusal};
+use super::{Call, Record, Setup, State, LAST_EVENT};
 use crate::model::check::Checked;
 use crate::model::monitor::monitor_fault;
 use crate::model::registers::{alloc_ctl_well_formed, mon_ctl_well_formed};
@@ -42,24 +41,12 @@ impl Checked for State {
         }
     }
 
-    /// Refusals 4 to 8: those that go by the call's own arguments.
-    fn argument_refusal(setup: &Setup, call: &Call) -> u64 {
+    fn own_refusal(setup: &Setup, call: &Call) -> u64 {
         match call {
-            Call::Reset(_) => 0,
-            Call::Read { size, offset } => access_refusal(*size, *offset),
-            Call::Write { size, offset, value } => write_refusal(*size, *offset, *value),
-            Call::Fill(event) | Call::Evict(event) => event_refusal(setup, event),
+            Call::Fill(e) | Call::Evict(e) if e.rcid >= setup.nr || e.mcid >= setup.nm => 7,
+            Call::Fill(e) | Call::Evict(e) if e.block >= setup.ncblks => 8,
+            _ => 0,
         }
-    }
-}
-
-fn event_refusal(setup: &Setup, event: &Event) -> u64 {
-    if event.rcid >= setup.nr || event.mcid >= setup.nm {
-        7
-    } else if event.block >= setup.ncblks {
-        8
-    } else {
-        0
     }
 }
 

@@ -1,10 +1,8 @@
 //! Block masks and the operations of alloc_ctl: CONFIG_LIMIT and READ_LIMIT.
 
 use super::{Setup, State};
-use crate::model::registers::{
-    alloc_ctl_fields, AT, CONFIG_LIMIT, DONE, OP, RCID, READ_LIMIT, STATUS,
-};
-use crate::model::Sizes;
+use crate::model::registers::{alloc_ctl_fields, AT, CONFIG_LIMIT, DONE, OP, RCID, STATUS};
+use crate::model::{limits, Sizes};
 
 /// The mask with every block that the controller has.
 pub fn all_blocks(setup: &Setup) -> u64 {
@@ -18,8 +16,6 @@ pub fn first_masks(setup: &Setup) -> Vec<u64> {
     masks
 }
 
-/// Stores alloc_ctl's fields and performs the operation. Unless it ends in STATUS 1,
-/// nothing but alloc_ctl changes.
 pub fn write_alloc_ctl(state: &mut State, value: u64) {
     let setup = state.record.setup;
     let fields = alloc_ctl_fields(value, setup.na);
@@ -36,18 +32,7 @@ pub fn write_alloc_ctl(state: &mut State, value: u64) {
 
 /// STATUS of the operation that alloc_ctl's fields ask for.
 pub fn alloc_status(setup: &Setup, block_mask: u64, fields: u64) -> u64 {
-    let op = OP.get(fields);
-    if op != CONFIG_LIMIT && op != READ_LIMIT {
-        2
-    } else if RCID.get(fields) >= setup.nr {
-        3
-    } else if AT.get(fields) >= setup.na {
-        4
-    } else if op == CONFIG_LIMIT && block_mask == 0 {
-        5
-    } else {
-        DONE
-    }
+    limits::alloc_status(setup, fields, |_, _| block_mask == 0)
 }
 
 #[cfg(test)]

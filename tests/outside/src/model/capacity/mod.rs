@@ -7,11 +7,10 @@ mod limits;
 pub use event::{counted, CTR, INVALID};
 pub use limits::{all_blocks, alloc_status, first_masks};
 
-use super::access::{self, Part};
-use super::check::Checked;
-use super::monitor::{write_mon_ctl, Monitor};
+use super::access::{write_part, Part};
+use super::monitor::Monitor;
 use super::registers::VERSION;
-use super::Answer;
+use super::Performs;
 
 /// Capacity events: 0 none, 1 occupancy.
 pub const LAST_EVENT: u64 = 1;
@@ -75,63 +74,50 @@ pub struct Event {
     pub block: u64,
 }
 
-/// Makes one call. `lengths` are those of the lent slices in bytes: record, then tables in order.
-pub fn perform(state: &mut State, lengths: &[usize], call: &Call) -> Answer {
-    let refusal = state.refusal(lengths, call);
-    if refusal != 0 {
-        return Answer::refused(refusal);
-    }
-    match call {
-        Call::Reset(setup) => *state = after_reset(setup),
-        Call::Read { size, offset } => {
-            return Answer::value(access::read(registers(&state.record), *size, *offset))
+impl Performs for State {
+    /// RCID 0 has every block for each AT; all else is 0.
+    fn after_reset(setup: &Setup) -> State {
+        State {
+            record: Record { setup: *setup, ..Record::default() },
+            masks: first_masks(setup),
+            counters: vec![0; setup.nm as usize],
+            events: vec![0; setup.nm as usize],
         }
-        Call::Write { size, offset, value } => write(state, *size, *offset, *value),
-        Call::Fill(event) => return Answer::value(event::fill(state, event)),
-        Call::Evict(event) => event::evict(state, event),
     }
-    Answer::value(0)
-}
 
-/// RCID 0 has every block for each AT; all else is 0.
-fn after_reset(setup: &Setup) -> State {
-    State {
-        record: Record { setup: *setup, ..Record::default() },
-        masks: first_masks(setup),
-        counters: vec![0; setup.nm as usize],
-        events: vec![0; setup.nm as usize],
+    fn registers(&self) -> [u64; 5] {
+        let Record { setup, mon_ctl, mon_ctr_val, alloc_ctl, block_mask } = self.record;
+        [capabilities(&setup), mon_ctl, mon_ctr_val, alloc_ctl, block_mask]
     }
-}
 
-/// The words of the registers in the order of their offsets.
-fn registers(record: &Record) -> [u64; 5] {
-    let capabilities = capabilities(&record.setup);
-    [capabilities, record.mon_ctl, record.mon_ctr_val, record.alloc_ctl, record.block_mask]
+    fn monitor(&mut self) -> Monitor<'_> {
+        let State { record: Record { setup, mon_ctl, mon_ctr_val, .. }, counters, events, .. } =
+            self;
+        let (na, nm, last_event) = (setup.na, setup.nm, LAST_EVENT);
+        Monitor { na, nm, last_event, counters, events, mon_ctl, mon_ctr_val }
+    }
+
+    fn write_alloc_ctl(&mut self, value: u64) {
+        limits::write_alloc_ctl(self, value);
+    }
+
+    /// Either half may be written alone.
+    fn write_operand(&mut self, part: Part, value: u64) {
+        let word = write_part(self.record.block_mask, part, value);
+        self.record.block_mask = word & all_blocks(&self.record.setup);
+    }
+
+    fn own(&mut self, call: &Call) -> u64 {
+        match call {
+            Call::Fill(event) => return event::fill(self, event),
+            Call::Evict(event) => event::evict(self, event),
+            _ => {}
+        }
+        0
+    }
 }
 
 /// VER 7:0, NCBLKS 23:8; FRCID, bit 24, is 0.
 fn capabilities(setup: &Setup) -> u64 {
     VERSION | setup.ncblks << 8
-}
-
-fn write(state: &mut State, size: u64, offset: u64, value: u64) {
-    let part = access::part(size, offset);
-    match (access::register(offset), part) {
-        // either half of the mask may be written alone
-        (access::OPERAND, _) => {
-            let word = access::write_part(state.record.block_mask, part, value);
-            state.record.block_mask = word & all_blocks(&state.record.setup);
-        }
-        // a write of a control register's high half alone does nothing
-        (_, Part::High) => {}
-        (access::MON_CTL, _) => state.record.mon_ctl = write_mon_ctl(value, &mut monitor(state)),
-        (access::ALLOC_CTL, _) => limits::write_alloc_ctl(state, value),
-        // capabilities and mon_ctr_val are read-only: accepted, and nothing happens
-        _ => {}
-    }
-}
-
-fn monitor(state: &mut State) -> Monitor<'_> {
-    let State { record, counters, events, .. } = state;
-    Monitor::new(&record.setup, LAST_EVENT, counters, events, &mut record.mon_ctr_val)
 }

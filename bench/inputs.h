@@ -1,0 +1,129 @@
+/* The states and arguments that bench.c and firmware/count.c measure with. */
+#ifndef INPUTS_H
+#define INPUTS_H
+
+#include "interface.h"
+
+#include "../include/cbqri.h"
+
+#include <inttypes.h>
+#include <stdio.h>
+#include <stdlib.h>
+#include <string.h>
+
+struct setup {
+    uint64_t nr, na, nm;
+};
+
+enum { NBWBLKS = 60000, MRBWB = 50000, Q = 65536, W = 40, NCBLKS = 48, CALLS = 256 };
+#define BLOCKS (UINT64_MAX >> (64 - NCBLKS))
+
+/* Arguments of a call; which is the kind of a request or the block. */
+struct arguments {
+    uint64_t rcid, mcid, at, which, ctl;
+    uint32_t bytes;
+};
+
+/* Everything a call works on. */
+struct state {
+    struct bandwidth_buffers bandwidth;
+    struct capacity_buffers capacity;
+};
+
+static struct state start, now;
+static struct arguments list[CALLS];
+static uint64_t seed;
+
+static uint64_t upto(uint64_t below)
+{
+    return next_random(&seed) % below;
+}
+
+static void must(uint64_t refusal, const char *what)
+{
+    if (refusal == 0)
+        return;
+    printf("%s was refused: %" PRIu64 "\n", what, refusal);
+    exit(1);
+}
+
+static void state_after_reset(const struct setup *s)
+{
+    memset(&start, 0, sizeof start);
+    bandwidth_lengths(&start.bandwidth, s->nr, s->na, s->nm);
+    capacity_lengths(&start.capacity, s->nr, s->na, s->nm);
+    must(cbqri_bandwidth_reset(NBWBLKS, MRBWB, s->nr, s->na, s->nm, Q, W,
+                               BANDWIDTH_OF(&start.bandwidth)), "reset");
+    must(cbqri_capacity_reset(NCBLKS, s->nr, s->na, s->nm, W, CAPACITY_OF(&start.capacity)),
+         "reset");
+}
+
+/* AT 0 holds; of the others about two thirds hold, one in six shares AT 0 and
+ * one in six is not set. Each third holder has no weight. */
+static uint64_t mixed_setting(uint64_t at)
+{
+    uint64_t kind = at == 0 ? 0 : upto(6);
+    if (kind == 4)
+        return cbqri_sharer(0);
+    return kind == 5 ? 0 : cbqri_holder(1 + upto(20), upto(3));
+}
+
+static void mixed_monitor(void *counters, void *events, const struct setup *s,
+                          uint64_t last_event)
+{
+    for (uint64_t i = 0; i < s->nm; i++) {
+        uint64_t at = s->na > 1 && upto(4) == 0 ? 0x800 | upto(s->na) << 8 : 0;
+        put_word(events, i, 2, upto(8) ? (1 + upto(last_event)) | at : 0);
+        put_word(counters, i, 8, (UINT64_C(1) << (W - 1)) + upto(1000000));
+    }
+}
+
+/* Holders, sharers and unset pairs; half of the holders have used something;
+ * two RCIDs are configured anew since the last window end. */
+static void state_mixed(const struct setup *s)
+{
+    struct bandwidth_buffers *b = &start.bandwidth;
+    struct capacity_buffers *c = &start.capacity;
+    state_after_reset(s);
+    for (uint64_t i = 0; i < s->nr * s->na; i++) {
+        uint64_t word = mixed_setting(i % s->na);
+        put_word(b->active, i, 4, word);
+        put_word(b->configured, i, 4, word);
+        if ((word & 0xffff) && upto(2))
+            put_word(b->used, i, 4, upto(Q / 2));
+        put_word(c->masks, i, 8, upto(4) ? next_random(&seed) & BLOCKS : 0);
+    }
+    for (int i = 0; i < 2; i++)
+        put_word(b->configured, upto(s->nr) * s->na, 4, cbqri_holder(21 + upto(4), 1));
+    put_word(b->record, 11, 8, 12345);
+    mixed_monitor(b->counters, b->events, s, 3);
+    mixed_monitor(c->counters, c->events, s, 1);
+    must(cbqri_bandwidth_write(BANDWIDTH_OF(b), 8, CBQRI_ALLOC_CTL, 2), "state");
+}
+
+/* Small requests, so that reservations last; CONFIG_LIMIT goes round 8 RCIDs
+ * at most, AT 0, so that the tables keep their mixture. */
+static void make_list(const struct setup *s, int mixed)
+{
+    uint64_t some = mixed ? (s->nr < 8 ? s->nr : 8) : 1;
+    for (int i = 0; i < CALLS; i++) {
+        uint64_t rcid = upto(some) * (s->nr / (s->nr < 8 ? s->nr : 8));
+        list[i] = (struct arguments){
+            .rcid = upto(s->nr), .mcid = upto(s->nm), .at = upto(s->na),
+            .which = upto(2), .bytes = (uint32_t)upto(64),
+            .ctl = cbqri_alloc_ctl(CBQRI_CONFIG_LIMIT, 0, rcid)};
+    }
+}
+
+/* The start state, in use or after a reset, and the arguments; always the same ones. */
+static void make_inputs(const struct setup *s, int mixed)
+{
+    seed = 2023;
+    if (mixed)
+        state_mixed(s);
+    else
+        state_after_reset(s);
+    make_list(s, mixed);
+}
+
+#endif

@@ -1,0 +1,100 @@
+/*
+ * Instructions of each call on the bare board, as its counter minstret has
+ * them: the call with the board's memcpy and memset, and what its caller does
+ * to hand over the arguments. Under qemu with -icount the counter is exact and
+ * the output always the same. A number is the mean of CALLS calls with random
+ * arguments, each on the same state: most pairs set, or after a reset.
+ */
+#include "../bench/inputs.h"
+
+static uint64_t instructions(void)
+{
+    uint64_t count;
+    __asm__ volatile("csrr %0, minstret" : "=r"(count) : : "memory");
+    return count;
+}
+
+/* What a call hands back, and whether any was refused. */
+static uint64_t out, refused;
+static const struct setup *size;
+
+/* The instructions of one call. */
+#define COUNT(name, ...)                                                                  \
+    __attribute__((noinline)) static uint64_t name(const struct arguments *a)             \
+    {                                                                                     \
+        uint64_t from = instructions();                                                   \
+        refused |= cbqri_##name(__VA_ARGS__);                                             \
+        (void)a;                                                                          \
+        return instructions() - from;                                                     \
+    }
+#define BANDWIDTH BANDWIDTH_OF(&now.bandwidth)
+#define CAPACITY CAPACITY_OF(&now.capacity)
+COUNT(bandwidth_reset, NBWBLKS, MRBWB, size->nr, size->na, size->nm, Q, W, BANDWIDTH)
+COUNT(bandwidth_read, BANDWIDTH, 8, CBQRI_BW_ALLOC, &out)
+COUNT(bandwidth_write, BANDWIDTH, 8, CBQRI_ALLOC_CTL, a->ctl)
+COUNT(bandwidth_request, BANDWIDTH, a->rcid, a->mcid, a->at, a->which, a->bytes, &out)
+COUNT(bandwidth_end_window, BANDWIDTH)
+COUNT(capacity_reset, NCBLKS, size->nr, size->na, size->nm, W, CAPACITY)
+COUNT(capacity_read, CAPACITY, 8, CBQRI_BLOCK_MASK, &out)
+COUNT(capacity_write, CAPACITY, 8, CBQRI_ALLOC_CTL, a->ctl)
+COUNT(capacity_fill, CAPACITY, a->rcid, a->mcid, a->at, a->bytes % NCBLKS, &out)
+COUNT(capacity_evict, CAPACITY, a->rcid, a->mcid, a->at, a->bytes % NCBLKS)
+
+#define NAMED(name) {"cbqri_" #name, name}
+static const struct {
+    const char *name;
+    uint64_t (*count)(const struct arguments *a);
+} entries[] = {
+    NAMED(bandwidth_reset), NAMED(bandwidth_read), NAMED(bandwidth_write),
+    NAMED(bandwidth_request), NAMED(bandwidth_end_window), NAMED(capacity_reset),
+    NAMED(capacity_read), NAMED(capacity_write), NAMED(capacity_fill), NAMED(capacity_evict),
+};
+enum { ENTRIES = sizeof entries / sizeof entries[0] };
+
+static const struct setup setups[] = {{4, 2, 4}, {64, 2, 16}, {256, 8, 256}};
+enum { SETUPS = sizeof setups / sizeof setups[0] };
+
+/* Both CONFIG_LIMITs have an operand that can be taken. */
+static void make_start(int mixed)
+{
+    make_inputs(size, mixed);
+    must(cbqri_bandwidth_write(BANDWIDTH_OF(&start.bandwidth), 8, CBQRI_BW_ALLOC,
+                               cbqri_holder(3, 1)), "operand");
+    must(cbqri_capacity_write(CAPACITY_OF(&start.capacity), 8, CBQRI_BLOCK_MASK, 0xff),
+         "operand");
+}
+
+static uint64_t mean(uint64_t (*count)(const struct arguments *a))
+{
+    uint64_t sum = 0;
+    for (int i = 0; i < CALLS; i++) {
+        now = start;
+        sum += count(&list[i]);
+    }
+    return (sum + CALLS / 2) / CALLS;
+}
+
+int main(void)
+{
+    static uint64_t means[ENTRIES][SETUPS][2];
+    for (int s = 0; s < SETUPS; s++) {
+        size = &setups[s];
+        for (int mixed = 0; mixed < 2; mixed++) {
+            make_start(mixed);
+            for (int i = 0; i < ENTRIES; i++)
+                means[i][s][mixed] = mean(entries[i].count);
+        }
+    }
+    printf("instructions of a call, most pairs set and after a reset, at");
+    for (int s = 0; s < SETUPS; s++)
+        printf(" %" PRIu64 " x %" PRIu64 ",", setups[s].nr, setups[s].na);
+    printf(" with %" PRIu64 ", %" PRIu64 ", %" PRIu64 " MCIDs\n", setups[0].nm, setups[1].nm,
+           setups[2].nm);
+    for (int i = 0; i < ENTRIES; i++) {
+        printf("%s", entries[i].name);
+        for (int s = 0; s < SETUPS; s++)
+            printf(" %" PRIu64 " %" PRIu64, means[i][s][1], means[i][s][0]);
+        printf("\n");
+    }
+    return refused != 0;
+}
