@@ -1,11 +1,13 @@
 -- Words of a part of a table that were loaded into an array.
-use mathlib.Core.Path.{_≡_, ap, _∙_}
+use mathlib.Core.Path.{_≡_, sym, ap, _∙_}
 use mathlib.Core.List.{List}
-use Prim.Native.Nat.{ℕ, _-_, _*_}
+use Prim.Native.Nat.{ℕ, _+_, _-_, _*_, _≤_, _<_}
 use native.Mathlib.Omega.{arith}
-use lib.ListN.{length}
+use lib.ListN.{length, getD, take, drop}
 use Rattle.tables.specs.Parts.{part, withPart, RowAt}
-use Rattle.words.specs.Words.{bytesOfAll, tableOf, Holds}
+use Rattle.words.specs.Words.{wordOf, bytesOfAll, tableOf, Holds}
+use Rattle.words.proofs.Parts.{entries, entry-in}
+use Rattle.tables.proofs.Parts.{part-at, part-length}
 use Rattle.bandwidth_model.specs.Rules.{Setup}
 use Rattle.bandwidth_model.specs.Model.{Allocation, writeAlloc}
 use Rattle.allocation.specs.Allocation.{rcidOf}
@@ -21,6 +23,14 @@ use Rattle.bandwidth_bytes.specs.View.{PartIn, Wrote, Stores}
 -- as many words as the array holds
 pub loaded : (from : ℕ) (bytes : List ℕ) {n m : ℕ} {x : List ℕ} → x ≡ part from m (tableOf 4 bytes) → m ≡ n → x ≡ part from n (tableOf 4 bytes)
 loaded from bytes e h = e ∙ ap (λ (m : ℕ). part from m (tableOf 4 bytes)) h
+
+-- as many words as a part has
+pub part-words : (from n : ℕ) (bytes : List ℕ) → (from + n) * 4 ≤ length bytes → length (part from n (tableOf 4 bytes)) ≡ n
+part-words from n bytes h = part-length (tableOf 4 bytes) from n (omega (arith, h, entries 4 bytes))
+
+-- the word at i of a part
+pub word-in : (from n i w : ℕ) (bytes : List ℕ) → (from + n) * 4 ≤ length bytes → i < n → w ≡ wordOf (take 4 (drop ((from + i) * 4) bytes)) → w ≡ getD (part from n (tableOf 4 bytes)) i 0
+word-in from n i w bytes h l e = entry-in 4 bytes (from + i) w (omega (arith, h)) e ∙ sym (part-at (tableOf 4 bytes) from n i l)
 
 -- stored back
 pub put-back : (from : ℕ) (bytes left : List ℕ) {n : ℕ} {new : List ℕ} → new ≡ bytesOfAll 4 (withPart from (length left) (tableOf 4 bytes) left) → length left ≡ n

@@ -5,12 +5,43 @@ use wellformed::no_sums;
 use wellformed::span_at;
 use wellformed::sum_rows;
 use words::load_part32;
-ghost use Prim.Native.Nat.{_*_, _≤_};
-ghost use lib.ListN.{length};
+use words::load32;
+use words::word32;
+ghost use Prim.Native.Nat.{_+_, _*_, _≤_};
+ghost use lib.Dec.{T};
+ghost use lib.ListN.{length, getD};
 ghost use Rattle.tables.specs.Parts.{part};
 ghost use Rattle.words.specs.Words.{tableOf};
-ghost use Rattle.wellformed.specs.Tables.{Rows, Summed};
+ghost use Rattle.wellformed.specs.Bits.{AtMost};
+ghost use Rattle.wellformed.specs.Tables.{Rows, Zeros, Summed};
 ghost use Rattle.bandwidth_bytes.specs.View.{PartIn, Loads};
+
+// Whether n words from the word `from` on are 0.
+fn zero_words(b: &[u8], from: usize, n: usize) -> bool
+    requires { ⌜ (from + n) * 4 ≤ length (now b) ⌝ }
+    ensures { λ r. ⌜ (T r → AtMost (λ k. getD (part from n (tableOf 4 (now (b .entry)))) k 0) n 0) ⌝ }
+{
+    let mut bits = 0u32;
+    for i in 0..n {
+        bits = bits | load32(b, (from + i) * 4) as u32;
+    }
+    bits == 0
+}
+
+// Whether all three tables are 0 there; the first word in force mostly tells.
+fn zero_part(active: &[u8], configured: &[u8], used: &[u8], from: usize, n: usize) -> bool
+    requires { ⌜ PartIn (now active) (now configured) (now used) from n ⌝ }
+    ensures { λ r. ⌜ (T r → Zeros n (part from n (tableOf 4 (now (active .entry)))) (part from n (tableOf 4 (now (configured .entry)))) (part from n (tableOf 4 (now (used .entry))))) ⌝ }
+{
+    if word32(active, from) != 0 {
+        return false;
+    }
+    if zero_words(active, from, n) {
+        zero_words(configured, from, n) & zero_words(used, from, n)
+    } else {
+        false
+    }
+}
 
 // Rows of the tables from the word `from` on, with arrays for as many words.
 fn sum_loaded(
@@ -36,7 +67,7 @@ fn sum_loaded(
     sum_rows(a, c, u, rows, na, q)
 }
 
-// The rows of one part.
+// The rows of one part; one that is all 0 is passed over.
 fn sum_part(
     active: &[u8],
     configured: &[u8],
@@ -51,6 +82,9 @@ fn sum_part(
         × Rows na q rows (part from n (tableOf 4 (now active))) (part from n (tableOf 4 (now configured))) (part from n (tableOf 4 (now used)))) ⌝ }
     ensures { λ r. ⌜ Summed na q (part from n (tableOf 4 (now (active .entry)))) (part from n (tableOf 4 (now (configured .entry)))) (part from n (tableOf 4 (now (used .entry)))) rows r ⌝ }
 {
+    if zero_part(active, configured, used, from, n) {
+        return no_sums();
+    }
     let mut a = [0u32; 64];
     let mut c = [0u32; 64];
     let mut u = [0u32; 64];

@@ -2,7 +2,7 @@
 use mathlib.Core.Path.{_≡_, refl, sym, ap, subst, _∙_}
 use mathlib.Core.List.{List}
 use Prim.Native.Nat.{ℕ, _+_, _-_, _*_, _%_, _^_, _≤_, _<_}
-use native.Mathlib.Nat.{add-mul, mul-le-mul-right}
+use native.Mathlib.Nat.{add-mul, zero-mul, mul-le-mul-right}
 use native.Mathlib.Omega.{arith}
 use lib.Bits.{bitOr}
 use lib.ListN.{getD}
@@ -10,12 +10,12 @@ use Rattle.tables.specs.Below.{sumBelow, unionBelow}
 use Rattle.tables.specs.Parts.{part}
 use Rattle.tables.proofs.Laws.{sum-add, sum-same}
 use Rattle.tables.proofs.Parts.{part-at, part-length, row-inside}
-use Rattle.tables.proofs.Union.{union-same, union-add}
-use Rattle.wellformed.specs.Bits.{formBits, formAt, blocksAt, mark, markAt, lacking, sharingAt, overAt, SpanAt}
-use Rattle.wellformed.specs.Tables.{Rows, TableSummed, Summed, TableAdded, Added, SumsFit}
+use Rattle.tables.proofs.Union.{union-none, union-same, union-add}
+use Rattle.wellformed.specs.Bits.{formBits, formAt, blocksAt, mark, markAt, lacking, sharingAt, overAt, AtMost, SpanAt}
+use Rattle.wellformed.specs.Tables.{Rows, Zeros, TableSummed, Summed, TableAdded, Added, SumsFit}
 use Rattle.wellformed.specs.declared.settings.TableSums.{TableSums}
 use Rattle.wellformed.specs.declared.settings.Sums.{Sums}
-use Rattle.wellformed.proofs.Passes.{blocks-low}
+use Rattle.wellformed.proofs.Passes.{blocks-low, zeros-summed, none-summed, used-none}
 
 -- ---- the first n rows, and the m rows after them
 
@@ -105,3 +105,22 @@ module _ {na q nr r next from to : ℕ} {active configured used : List ℕ} (s :
         active = omega (arith, g .active .blocks, h .active .blocks, blocks-low active (r * na), blocks-low a ((next - r) * na));
         configured = omega (arith, g .configured .blocks, h .configured .blocks, blocks-low configured (r * na), blocks-low c ((next - r) * na));
       }
+
+-- ---- rows that are all 0
+
+zero-sums : {na n : ℕ} {t u : List ℕ} {s : TableSums} → TableSummed na u 0 s → AtMost (λ k. getD t k 0) (n * na) 0 → TableSummed na t n s
+zero-sums {na} {n} {t} {u} e h =
+    let z = zeros-summed na n t h in
+    let o = none-summed na u in
+    record { form = e .form ∙ sym (o .form) ∙ z .form; sharing = e .sharing ∙ sym (o .sharing) ∙ z .sharing; blocks = e .blocks ∙ sym (o .blocks) ∙ z .blocks }
+
+-- they have the sums of no rows
+pub zeros-none : {na q n m : ℕ} {active configured used : List ℕ} {s : Sums} → n * na ≡ m → Zeros m active configured used → Summed na q active configured used 0 s
+    → Summed na q active configured used n s
+zeros-none {na} {q} {n} {active = active} {used = used} e z s =
+    let w = rw (← e) at z in
+    record {
+      active = zero-sums (s .active) (w .active-none);
+      configured = zero-sums (s .configured) (w .configured-none);
+      over = s .over ∙ ap (λ (k : ℕ). unionBelow k (overAt q active used)) (zero-mul na) ∙ union-none _ ∙ sym (used-none q active used (n * na) refl (w .used-none));
+    }

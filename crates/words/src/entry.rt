@@ -1,5 +1,6 @@
 // The words of a table of bytes: one by its place, which is 0 outside, and all of them.
 use crate::load16;
+use crate::load32;
 use crate::load64;
 ghost use mathlib.Core.Path.{_≡_};
 ghost use lib.ListN.{length, getD};
@@ -11,6 +12,16 @@ pub fn word16(b: &[u8], i: usize) -> u16
 {
     if i < b.len() / 2 {
         load16(b, i * 2) as u16
+    } else {
+        0
+    }
+}
+
+pub fn word32(b: &[u8], i: usize) -> u32
+    ensures { λ r. ⌜ r ≡ getD (tableOf 4 (now (b .entry))) i 0 ⌝ }
+{
+    if i < b.len() / 4 {
+        load32(b, i * 4) as u32
     } else {
         0
     }

@@ -4,6 +4,7 @@ mod part;
 
 pub use entry::union64;
 pub use entry::word16;
+pub use entry::word32;
 pub use entry::word64;
 pub use part::load_part16;
 pub use part::load_part32;
