@@ -1,7 +1,6 @@
 -- Checks 1 and 2 on bytes, both ways.
 use mathlib.Core.Path.{_≡_, refl}
 use mathlib.Core.Bool.{true, false, cond}
-use Prim.Native.Nat.{_*_}
 use borrow.Author.Tests.{eq-eqb, ne-eqb}
 use lib.Dec.{T, eqb, eqb→eq, lit<}
 use lib.ListN.{length}

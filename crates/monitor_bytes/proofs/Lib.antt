@@ -1,2 +1,3 @@
--- The laws that the proofs cite.
+-- The laws that other crates cite.
 pub mod Words
+pub mod Parts

@@ -1,12 +1,11 @@
 // Monitoring where counters and their settings are lent as little-endian bytes: the operations of `monitor` on words that are loaded and stored.
 use monitor::Registers;
-use monitor::bad_setting;
 use monitor::bandwidth_union_ok;
 use monitor::capacity_union_ok;
 use monitor::counted_bytes;
 use monitor::mon_after;
 use monitor::named_mcid;
-use words::load16;
+use words::load_part16;
 use words::put16;
 use words::put64;
 use words::union64;
@@ -15,10 +14,11 @@ use words::word64;
 ghost use mathlib.Core.Path.{_≡_};
 ghost use mathlib.Core.Bool.{cond};
 ghost use mathlib.Core.List.{List};
-ghost use Prim.Native.Nat.{ℕ, _^_, _≤_, _<_};
+ghost use Prim.Native.Nat.{ℕ, _+_, _*_, _^_, _≤_, _<_};
 ghost use lib.ListN.{length, getD, set};
 ghost use Rattle.fields.specs.Registers as reg;
 ghost use Rattle.tables.specs.Below.{allBelow};
+ghost use Rattle.tables.specs.Parts.{part};
 ghost use Rattle.words.specs.Words.{bytesOfAll, tableOf, Holds};
 ghost use Rattle.monitor.specs.Monitor.{counterOk, settingOk, monAfter};
 ghost use Rattle.monitor.specs.Bytes.{countsRequest, added};
@@ -41,16 +41,38 @@ pub fn capacity_counters_ok(t: &[u8], w: u32) -> bool
     capacity_union_ok(union64(t), w)
 }
 
+// How many words a part has that begins at i, before the end of `words` words.
+fn part_length(i: usize, words: usize) -> usize
+    requires { ⌜ i < words ⌝ }
+    ensures { λ r. ⌜ (1 ≤ r) × ((r ≤ 64) × (i + r ≤ words)) ⌝ }
+{
+    if words - i < 64 { words - i } else { 64 }
+}
+
+// Whether n counter settings from `from` on are well formed.
+fn part_ok(t: &[u8], from: usize, n: usize, na: u16, last: u16) -> bool
+    requires { ⌜ (na ≤ 8) × ((n ≤ 64) × ((from + n) * 2 ≤ length (now t))) ⌝ }
+    ensures { λ r. ⌜ r ≡ allBelow n (λ i. settingOk na last (getD (part from n (tableOf 2 (now (t .entry)))) i 0)) ⌝ }
+{
+    let mut settings = [0u16; 64];
+    load_part16(t, from, &mut settings[..n]);
+    monitor::events_ok(&settings[..n], na, last)
+}
+
 // Whether every counter setting is well formed.
 pub fn events_ok(t: &[u8], na: u16, last: u16) -> bool
     requires { ⌜ na ≤ 8 ⌝ }
     ensures { λ r. ⌜ r ≡ allBelow (length (tableOf 2 (now (t .entry)))) (λ i. settingOk na last (getD (tableOf 2 (now (t .entry))) i 0)) ⌝ }
 {
-    let mut bits = 0u16;
-    for i in 0..t.len() / 2 {
-        bits = bits | bad_setting(load16(t, i * 2) as u16, na, last);
+    let words = t.len() / 2;
+    let mut ok = true;
+    let mut i = 0usize;
+    while i < words {
+        let n = part_length(i, words);
+        ok = ok & part_ok(t, i, n, na, last);
+        i = i + n;
     }
-    bits == 0
+    ok
 }
 
 // Granted bytes added to the counter of an MCID where its setting matches.

@@ -1,7 +1,7 @@
 -- `capacity_bytes::reset::reset_masks` meets its contract.
 use borrow.Author.Needs.{needs}
 use mathlib.Core.Path.{ap, _∙_}
-use Prim.Native.Nat.{ℕ, _*_}
+use Prim.Native.Nat.{ℕ}
 use lib.ListN.{take, replicate}
 use Rattle.words.specs.Words.{bytesOfAll}
 use Rattle.masks.specs.View.{setupOf}
