@@ -1,7 +1,5 @@
 -- What is claimed of the capacity controller after any list of calls that an accepted reset opens, by the ledger.
-use mathlib.Core.Path.{_≡_}
-use mathlib.Core.Bool.{Bool}
-use Prim.Native.Nat.{ℕ}
+use Rattle.access.specs.Logic.{_≡_, Bool, ℕ}
 use Rattle.runs.specs.Runs.{Machine, stepOf, Always}
 use Rattle.runs.specs.Claims.{Book, Reads, Counted, Settled}
 use Rattle.access.specs.Access as access

@@ -1,9 +1,5 @@
 -- A tally of what each MCID counted, by calls and answers alone, in counts of any type.
-use mathlib.Core.Bool.{Bool, not, _&&_}
-use mathlib.Core.List.{List}
-use Prim.Native.Nat.{ℕ}
-use lib.ListN.{getD, set, replicate}
-use Rattle.tables.specs.Notation.{if_then_else_, _==_, _‼_}
+use Rattle.access.specs.Logic.{Bool, not, _&&_, List, ℕ, getD, set, replicate, if_then_else_, _==_, _‼_}
 use Rattle.monitor.specs.Monitor.{configEvent, readCounter, mcidOf, eventOf, monDone, settingOf}
 
 -- how a controller with a set-up of type U counts: NA, NM and its last event; nothing counted, and the counter of a count
@@ -20,6 +16,9 @@ pub record Tally (U K : Type 0) : Type 0 where
   pub settings : List ℕ
   pub counts : List K
   pub shown : ℕ
+
+abbrev pub withCounts : {U K : Type 0} → Tally U K → List K → Tally U K
+withCounts t counts = record { setup = t .setup; settings = t .settings; counts = counts; shown = t .shown }
 
 module _ {U K : Type 0} (r : Counter U K) where
   unfoldable pub tallyStart : U → Tally U K
@@ -39,9 +38,5 @@ module _ {U K : Type 0} (r : Counter U K) where
 
   -- the count of an MCID changes where its setting matches
   unfoldable pub tallied : (ℕ → Bool) → Tally U K → ℕ → (K → K) → Tally U K
-  tallied matches t mcid change = record {
-    setup = t .setup;
-    settings = t .settings;
-    counts = if matches (t .settings ‼ mcid) then set (t .counts) mcid (change (getD (t .counts) mcid (r .none))) else t .counts;
-    shown = t .shown;
-  }
+  tallied matches t mcid change =
+      withCounts t (if matches (t .settings ‼ mcid) then set (t .counts) mcid (change (getD (t .counts) mcid (r .none))) else t .counts)

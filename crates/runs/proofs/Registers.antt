@@ -18,7 +18,7 @@ use Rattle.monitor.specs.Monitor.{monWord, monStatus}
 use Rattle.monitor.specs.Tally.{Tally}
 use Rattle.monitor.proofs.Control.{monWord-fields}
 use Rattle.monitor.proofs.Operations.{monStatus-lt}
-use Rattle.runs.specs.Runs.{Outcome, Event, after, events, noting, Keeper, Machine, stepOf, noteOf, noteAfter, Always}
+use Rattle.runs.specs.Runs.{Outcome, Event, after, noting, Keeper, Machine, stepOf, noteOf, noteAfter, Always}
 use Rattle.runs.specs.Claims.{Book, Reads, Shows, Notes, controlAfter, allocBy, monBy, notes, settings, Stands, Settled, RegisterReads, AllRegisterReads}
 use Rattle.runs.proofs.Steps.{done-step, done-by}
 use Rattle.runs.proofs.Laws.{Accepts, Keeps, keeps-always, note-part}

@@ -1,14 +1,9 @@
 -- What is claimed of both controllers alike: of the state and of notes of calls and answers, after any list of calls that an accepted reset opens.
-use mathlib.Core.Path.{_≡_}
-use mathlib.Core.Bool.{Bool, not, _&&_, _||_}
-use mathlib.Core.List.{List, [], _∷_, List·Memᴰ}
-use mathlib.Core.Logic.{_↔_}
-use Prim.Native.Nat.{ℕ, _*_, _<_}
-use lib.Dec.{T}
-use lib.ListN.{getD}
-use Rattle.tables.specs.Notation.{if_then_else_, _==_, _≤?_, _‼_}
+use Rattle.access.specs.Logic.{_≡_, Bool, not, _&&_, _||_, List, [], _∷_, List·Memᴰ, _↔_, ℕ, _*_, _<_, T, getD, if_then_else_, _==_, _≤?_, _‼_}
 use Rattle.fields.specs.Layout.{unpack}
 use Rattle.fields.specs.Registers as reg
+use Rattle.access.specs.declared.Refusal.the-variants.{State}
+use Rattle.access.specs.Refusals.{numberOf}
 use Rattle.access.specs.Checks.{Check, first, Kind, resets, writes, other, isReset, Rows}
 use Rattle.access.specs.Access as access
 use Rattle.access.specs.Pairs.{Setting, ofPair, anyOf}
@@ -50,7 +45,7 @@ module _ {S U C A : Type 0} (m : Machine S U C A) where
     -- a reset by its set-up and the lengths of the tables
     pub resets : (u : U) → Decided (m .setupChecks u s) (stepOf m s (m .reset u) .answer)
     -- refusal 3 never comes
-    pub never3 : (c : C) → stepOf m s c .answer ≡ m .refused 3 → ⊥
+    pub never3 : (c : C) → stepOf m s c .answer ≡ m .refused (numberOf State) → ⊥
 
   -- ---- registers
 
