@@ -13,20 +13,9 @@ use Rattle.capacity_model.specs.Model.{State, setupChecks, argumentCheck
 use Rattle.capacity_model.specs.Ledger.{Ledger, accepted, started, noteCall, settingsBy, counter, tally}
 
 -- ---- what the claims speak of
-
 abbrev pub controller : Machine State Setup Call Answer
-controller = record {
-  refusal = refusal;
-  perform = perform;
-  reset = reset;
-  read = read;
-  write = write;
-  kindOf = kindOf;
-  refused = refused;
-  value = value;
-  accepted = accepted;
-  setupChecks = setupChecks;
-}
+controller = record
+    { refusal = refusal; perform = perform; reset = reset; read = read; write = write; kindOf = kindOf; refused = refused; value = value; accepted = accepted; setupChecks = setupChecks }
 
 abbrev pub isReset : Call → Bool
 isReset c = checks.isReset (kindOf c)
@@ -48,7 +37,6 @@ book = record {
 }
 
 -- ---- masks; the state s and the ledger l
-
 pub record Claim (s : State) (l : Ledger) : Type 0 where
   -- all masks are the ledger's, and so is block_mask as it is read
   pub masks : s .alloc .masks ≡ l .masks
@@ -63,6 +51,5 @@ pub record Claims : Type 0 where
   pub always : Always controller (book .keeper) Claim
 
 -- ---- counters: each holds its count, value and flag
-
 pub record Counting : Type 0 where
   pub always : Always controller tally (Counted controller counter (λ s. s .monitor .counters))

@@ -19,7 +19,7 @@ use Rattle.monitor.specs.Tally.{Tally}
 use Rattle.monitor.proofs.Control.{monWord-fields}
 use Rattle.monitor.proofs.Operations.{monStatus-lt}
 use Rattle.runs.specs.Runs.{Outcome, Event, after, noting, Keeper, Machine, stepOf, noteOf, noteAfter, Always}
-use Rattle.runs.specs.Claims.{Book, Reads, Shows, Notes, controlAfter, allocBy, monBy, notes, settings, Stands, Settled, RegisterReads, AllRegisterReads}
+use Rattle.runs.specs.Claims.{Book, Reads, Shows, Notes, controlAfter, notes, settings, Stands, Settled, RegisterReads, AllRegisterReads}
 use Rattle.runs.proofs.Steps.{done-step, done-by}
 use Rattle.runs.proofs.Laws.{Accepts, Keeps, keeps-always, note-part}
 use Rattle.runs.proofs.Settings.{Back, Settings, stands, standing}
@@ -168,8 +168,8 @@ module _ {S U C A L X K : Type 0} {m : Machine S U C A} {q : Parts S U} {b : Boo
         record {
           inv = k .inv .next s (n .ledger) (i .inv) c e;
           counts = k .next s (n .ledger) (n .tally) (i .inv) (i .counts) c;
-          alloc = h .alloc s c ∙ control-same access.allocCtl _ (allocBy m b (n .ledger)) _ (n .allocCtl) (m .kindOf c) (λ v. rw (g .na, g .status v) refl) (i .alloc);
-          mon = h .mon s c ∙ control-same access.monCtl _ (monBy m b (n .ledger)) _ (n .monCtl) (m .kindOf c) (λ v. rw (g .na, g .mon v) refl) (i .mon);
+          alloc = h .alloc s c ∙ control-same access.allocCtl _ (λ v. allocWord (b .na (n .ledger)) v 0 (b .statusBy (n .ledger) v)) _ (n .allocCtl) (m .kindOf c) (λ v. rw (g .na, g .status v) refl) (i .alloc);
+          mon = h .mon s c ∙ control-same access.monCtl _ (λ v. monWord (b .na (n .ledger)) v 0 (b .monStatusBy (n .ledger) v)) _ (n .monCtl) (m .kindOf c) (λ v. rw (g .na, g .mon v) refl) (i .mon);
         };
   }
 

@@ -69,7 +69,6 @@ module _ {S U C A : Type 0} (m : Machine S U C A) where
     pub reads : Reads s access.monCtrVal (t .shown)
 
 -- ---- the notes behind the registers: ledger, tally and the two control registers
-
 pub record Notes (L N : Type 0) : Type 0 where
   pub ledger : L
   pub tally : N
@@ -83,33 +82,22 @@ controlAfter register word ctl (writes size offset v) = if access.writesLow offs
 controlAfter register word ctl other = ctl
 
 module _ {S U C A L X : Type 0} (m : Machine S U C A) (b : Book S U C A L X) where
-  -- what each control register holds after the write of a value: its fields, the STATUS and BUSY 0
-  abbrev pub allocBy : L → ℕ → ℕ
-  allocBy l v = allocWord (b .na l) v reg.idle (b .statusBy l v)
-
-  abbrev pub monBy : L → ℕ → ℕ
-  monBy l v = mon.monWord (b .na l) v reg.idle (b .monStatusBy l v)
-
+  -- a control register holds the fields of the value written, the STATUS and BUSY 0
   unfoldable pub notes : {K : Type 0} → Keeper U C A (Tally U K) → Keeper U C A (Notes L (Tally U K))
   notes t = record {
     start = λ u. record { ledger = b .keeper .start u; tally = t .start u; allocCtl = 0; monCtl = 0 };
     noteCall = λ n c a. record {
       ledger = b .keeper .noteCall (n .ledger) c a;
       tally = t .noteCall (n .tally) c a;
-      allocCtl = controlAfter access.allocCtl (allocBy (n .ledger)) (n .allocCtl) (m .kindOf c);
-      monCtl = controlAfter access.monCtl (monBy (n .ledger)) (n .monCtl) (m .kindOf c);
+      allocCtl = controlAfter access.allocCtl (λ v. allocWord (b .na (n .ledger)) v reg.idle (b .statusBy (n .ledger) v)) (n .allocCtl) (m .kindOf c);
+      monCtl = controlAfter access.monCtl (λ v. mon.monWord (b .na (n .ledger)) v reg.idle (b .monStatusBy (n .ledger) v)) (n .monCtl) (m .kindOf c);
     };
   }
 
   -- the words that the registers hold by the notes
   abbrev pub registersBy : {K : Type 0} → Notes L (Tally U K) → access.RegisterFile
-  registersBy n = record {
-    capabilities = b .capabilities (n .ledger);
-    monCtl = n .monCtl;
-    monCtrVal = n .tally .shown;
-    allocCtl = n .allocCtl;
-    operand = b .operand (n .ledger);
-  }
+  registersBy n = record
+      { capabilities = b .capabilities (n .ledger); monCtl = n .monCtl; monCtrVal = n .tally .shown; allocCtl = n .allocCtl; operand = b .operand (n .ledger) }
 
   -- ---- settings, and what ends one
 
@@ -138,7 +126,6 @@ module _ {S U C A L X : Type 0} (m : Machine S U C A) (b : Book S U C A L X) whe
         → Reads m (stepOf m (after (stepOf m) s (c ∷ between)) (m .write size (8 * access.allocCtl) v) .state) access.operand (b .wordOf (p .value))
 
   -- ---- the claims
-
   pub record Answering : Type 0 where
     -- the reset that opens a list, on any record and tables: with a set-up in range and tables of its lengths it is accepted
     pub opens : (s : S) (u : U) → Decided m (m .setupChecks u s) (stepOf m s (m .reset u) .answer)
@@ -167,7 +154,6 @@ module _ {S U C A L X : Type 0} (m : Machine S U C A) (b : Book S U C A L X) whe
     pub tally : (s : S) (u : U) (cs : List C) → noteAfter m (notes t) s u cs .tally ≡ noteAfter m t s u cs
 
 -- ---- STATUS: each under its own condition and no other, where the events of a controller end at last
-
 pub record Statuses (last : ℕ) : Type 0 where
   pub alloc : (nr na : ℕ) (bad : Bool) (v : ℕ)
       → Rows (not (validOp (opOf v))) (nr ≤? rcidOf v) (na ≤? atOf na v) (opOf v == configLimit && bad) (status nr na bad v)
