@@ -22,7 +22,7 @@ use Rattle.capacity_model.proofs.Steps.{accepting, checking, allowed-is
 use Rattle.capacity_model.proofs.Invariant.{Inv}
 use Rattle.capacity_model.proofs.Answers.{good-passes}
 use Rattle.capacity_model.proofs.Counters.{counter-none, fits-none}
-use Rattle.capacity_model.proofs.Registers.{registered, setting, noting}
+use Rattle.capacity_model.proofs.Registers.{registered, setting, invariants}
 
 module _ (s : State) (l : Ledger) (i : Inv s l) where
   fill-is : (rcid mcid at block : ℕ) (b : Bool) → stepOf controller s (fill rcid mcid at block) .answer ≡ allowed b
@@ -35,22 +35,22 @@ module _ (s : State) (l : Ledger) (i : Inv s l) where
     masks = sym (ap (λ (k : Ledger). k .masks) (i .same));
     reads = rw (ap (λ (k : Ledger). k .mask) (i .same)) (shared.reads-now registered s access.operand);
     fills = fill-is;
-    settings = shared.settled registered setting (λ l. refl) (λ l s rcid at. refl) (λ w. refl) s l i;
+    settings = shared.lasting registered setting (λ l. refl) (λ l s rcid at. refl) (λ w. refl) s l i;
   }
 
 pub claims : Claims
-claims = record { always = shared.ledger-always registered noting Claim claim }
+claims = record { always = shared.ledger-always registered invariants Claim claim }
 
 pub answering : Answering controller book
 answering = record {
   opens = reset-decided controller accepting checking (λ u s. refl);
-  always = shared.ledger-always registered noting _
+  always = shared.ledger-always registered invariants _
       (λ s l i. answered controller accepting checking (λ u s. refl) s (good-passes (i .good)) (book .checksBy l) (λ c. sym (ap (λ (k : Ledger). book .checksBy k c) (i .same))));
 }
 
 pub counting : Counting
 counting = record {
-  always = shared.tally-always registered noting (Counted controller counter (λ s. s .monitor .counters))
+  always = shared.tally-always registered invariants (Counted controller counter (λ s. s .monitor .counters))
       (λ s t k. record {
         counters = λ m h. tallied-counter counter _ (s .setup) counter-none (fits-none (s .setup .w)) k m;
         reads = rw (ap (λ (x : Tally Setup Count). x .shown) (k .same)) (shared.reads-now registered s access.monCtrVal);
@@ -58,7 +58,7 @@ counting = record {
 }
 
 pub register-reads : AllRegisterReads controller book tally
-register-reads = shared.register-reads registered noting
+register-reads = shared.register-reads registered invariants
 
 pub statuses : Statuses lastEvent
 statuses = record { alloc = λ nr na bad v. status-rows nr na bad v; monitor = λ na nm v. monStatus-rows na nm lastEvent v }

@@ -1,7 +1,7 @@
 -- What is claimed of the capacity controller after any list of calls that an accepted reset opens, by the ledger.
 use Rattle.access.specs.Logic.{_≡_, Bool, ℕ}
 use Rattle.runs.specs.Runs.{Machine, stepOf, Always}
-use Rattle.runs.specs.Claims.{Book, Reads, Counted, Settled}
+use Rattle.runs.specs.Claims.{Book, Reads, Counted, Lasting}
 use Rattle.access.specs.Access as access
 use Rattle.access.specs.Checks as checks
 use Rattle.access.specs.Pairs.{wordAt, knownAt, ofPair}
@@ -45,7 +45,7 @@ pub record Claim (s : State) (l : Ledger) : Type 0 where
   pub fills : (rcid mcid at block : ℕ) (b : Bool) → stepOf controller s (fill rcid mcid at block) .answer ≡ allowed b
       → b ≡ hasBlock (wordAt (l .setup .na) (l .masks) rcid (knownAt (l .setup .na) at)) block
   -- an accepted mask that stands is in the table, and reads back
-  pub settings : Settled controller book s l
+  pub settings : Lasting controller book s l
 
 pub record Claims : Type 0 where
   pub always : Always controller (book .keeper) Claim

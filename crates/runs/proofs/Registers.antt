@@ -19,7 +19,7 @@ use Rattle.monitor.specs.Tally.{Tally}
 use Rattle.monitor.proofs.Control.{monWord-fields}
 use Rattle.monitor.proofs.Operations.{monStatus-lt}
 use Rattle.runs.specs.Runs.{Outcome, Event, after, noting, Keeper, Machine, stepOf, noteOf, noteAfter, Always}
-use Rattle.runs.specs.Claims.{Book, Reads, Shows, Notes, controlAfter, notes, settings, Stands, Settled, RegisterReads, AllRegisterReads}
+use Rattle.runs.specs.Claims.{Book, Reads, Shows, Notes, controlAfter, notes, settings, Stands, Lasting, RegisterReads, AllRegisterReads}
 use Rattle.runs.proofs.Steps.{done-step, done-by}
 use Rattle.runs.proofs.Laws.{Accepts, Keeps, keeps-always, note-part}
 use Rattle.runs.proofs.Settings.{Back, Settings, stands, standing}
@@ -113,8 +113,8 @@ module _ {S U C A : Type 0} {m : Machine S U C A} {q : Parts S U} (h : Registere
 module _ {S U C A L : Type 0} {m : Machine S U C A} {q : Parts S U} {b : Book S U C A L ℕ} {Inv : S → L → Type 0} {setupBy : L → U} (h : Registered m q)
     (k : Settings m b Inv (q .setup) setupBy (q .nr) (q .na) (q .table)) (na : (l : L) → b .na l ≡ q .na (setupBy l))
     (at : (l : L) (s : S) (rcid at : ℕ) → b .valueAt l s rcid at ≡ wordAt (q .na (setupBy l)) (q .table s) rcid at) (word : (w : ℕ) → b .wordOf w ≡ w) where
-  pub settled : (s : S) (l : L) → Inv s l → Settled m b s l
-  settled s l i =
+  pub lasting : (s : S) (l : L) → Inv s l → Lasting m b s l
+  lasting s l i =
       let back : (c : C) (between : List C) (p : Setting ℕ) → Stands m b s l c between p → Back (q .setup) (q .nr) (q .na) (q .table) (setupBy l) p (after (stepOf m) s (c ∷ between))
       = stands m b (h .accepting) (standing k) s l i in
       record {
@@ -144,7 +144,7 @@ pub record Noted {S U C A L X K : Type 0} (m : Machine S U C A) (q : Parts S U) 
   pub mon : q .registers s .monCtl ≡ n .monCtl
 
 -- the invariants of ledger and tally, and what they tell
-pub record Noting {S U C A L X K : Type 0} (m : Machine S U C A) (q : Parts S U) (b : Book S U C A L X) (t : Keeper U C A (Tally U K)) (Inv : S → L → Type 0)
+pub record Invariants {S U C A L X K : Type 0} (m : Machine S U C A) (q : Parts S U) (b : Book S U C A L X) (t : Keeper U C A (Tally U K)) (Inv : S → L → Type 0)
     (Counts : S → Tally U K → Type 0) : Type 0 where
   pub inv : Keeps m (b .keeper) Inv
   pub first : (s : S) (u : U) → m .refusal s (m .reset u) ≡ 0 → Counts (m .perform s (m .reset u) .state) (t .start u)
@@ -153,7 +153,7 @@ pub record Noting {S U C A L X K : Type 0} (m : Machine S U C A) (q : Parts S U)
   pub shown : (s : S) (n : Tally U K) → Counts s n → q .registers s .monCtrVal ≡ n .shown
 
 module _ {S U C A L X K : Type 0} {m : Machine S U C A} {q : Parts S U} {b : Book S U C A L X} {t : Keeper U C A (Tally U K)} {Inv : S → L → Type 0}
-    {Counts : S → Tally U K → Type 0} (h : Registered m q) (k : Noting m q b t Inv Counts) where
+    {Counts : S → Tally U K → Type 0} (h : Registered m q) (k : Invariants m q b t Inv Counts) where
   noted-keeps : Keeps m (notes m b t) (Noted m q b Inv Counts)
   unfolding notes controlAfter
   noted-keeps = record {

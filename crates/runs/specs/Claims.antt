@@ -112,10 +112,10 @@ module _ {S U C A L X : Type 0} (m : Machine S U C A) (b : Book S U C A L X) whe
   -- the setting p, made by the call c on the state s with the ledger l, still stands after the calls between
   pub record Stands (s : S) (l : L) (c : C) (between : List C) (p : Setting X) : Type 0 where
     pub made : List·Memᴰ p (settings l (event (stepOf m) s c))
-    pub kept : T (untouched (noteOf m (b .keeper)) (touches p) (noteOf m (b .keeper) l (event (stepOf m) s c)) (events (stepOf m) (stepOf m s c .state) between))
+    pub lasts : T (untouched (noteOf m (b .keeper)) (touches p) (noteOf m (b .keeper) l (event (stepOf m) s c)) (events (stepOf m) (stepOf m s c .state) between))
 
   -- of a setting that stands so
-  pub record Settled (s : S) (l : L) : Type 0 where
+  pub record Lasting (s : S) (l : L) : Type 0 where
     -- it is the pair's value
     pub kept : (c : C) (between : List C) (p : Setting X) → Stands s l c between p
         → b .valueAt l (after (stepOf m) s (c ∷ between)) (p .rcid) (p .at) ≡ p .value
