@@ -14,8 +14,18 @@ use Rattle.capacity_model.specs.Ledger.{Ledger, accepted, started, noteC
 
 -- ---- what the claims speak of
 abbrev pub controller : Machine State Setup Call Answer
-controller = record
-    { refusal = refusal; perform = perform; reset = reset; read = read; write = write; kindOf = kindOf; refused = refused; value = value; accepted = accepted; setupChecks = setupChecks }
+controller = record {
+  refusal = refusal;
+  perform = perform;
+  reset = reset;
+  read = read;
+  write = write;
+  kindOf = kindOf;
+  refused = refused;
+  value = value;
+  accepted = accepted;
+  setupChecks = setupChecks;
+}
 
 abbrev pub isReset : Call → Bool
 isReset c = checks.isReset (kindOf c)
