@@ -10,13 +10,13 @@ use Rattle.fields.specs.Layout.{unpack}
 use Rattle.fields.specs.Registers.{allocCtl, heldAt}
 use Rattle.fields.proofs.Registers.{allocCtl-fields, held-held}
 use Rattle.tables.proofs.Tests.{and-l, and-r, and-in, eqb-in, or-l}
-use Rattle.access.specs.Pairs.{Setting, setsPair}
+use Rattle.access.specs.Pairs.{Setting, ofPair, anyOf}
 use Rattle.allocation.specs.Allocation.{configLimit, opOf, rcidOf, atOf, statusOf, allocWord, status, done}
 use Rattle.allocation.proofs.Operations.{status-lt}
 
 -- a setting that is made under a condition is of its own pair exactly where that holds
-sets-own : (b : Bool) (q : Setting) → T (setsPair (q .rcid) (q .at) (cond b (q ∷ []) [])) ↔ T b
-unfolding setsPair
+sets-own : {X : Type 0} (b : Bool) (q : Setting X) → T (anyOf (ofPair (q .rcid) (q .at)) (cond b (q ∷ []) [])) ↔ T b
+unfolding anyOf ofPair
 sets-own true q =
     let r = eqb (q .rcid) (q .rcid) in
     let a = eqb (q .at) (q .at) in
@@ -45,14 +45,14 @@ module _ (nr na : ℕ) (bad : Bool) (v x : ℕ) (e : x ≡ allocWord na v 0 (sta
   status-is = ap (λ (l : List ℕ). getD l 1 0) read-fields
 
   -- CONFIG_LIMIT made the setting exactly where it is read with STATUS 1
-  pub read-sets : (word : ℕ)
-      → T (setsPair (rcidOf x) (atOf na x) (cond (done nr na bad configLimit v) (record { rcid = rcidOf v; at = atOf na v; word = word } ∷ []) []))
+  pub read-sets : {X : Type 0} (value : X)
+      → T (anyOf (ofPair (rcidOf x) (atOf na x)) (cond (done nr na bad configLimit v) (record { rcid = rcidOf v; at = atOf na v; value = value } ∷ []) []))
       ↔ ((opOf x ≡ configLimit) × (statusOf x ≡ 1))
   unfolding done
-  read-sets word =
+  read-sets value =
       let op = eqb (opOf v) configLimit in
       let st = eqb (status nr na bad v) 1 in
-      let own = sets-own (done nr na bad configLimit v) (record { rcid = rcidOf v; at = atOf na v; word = word }) in
+      let own = sets-own (done nr na bad configLimit v) (record { rcid = rcidOf v; at = atOf na v; value = value }) in
       rw (rcid-is, at-is) (
         λ t. let d = own .0 t in
             (op-is ∙ eqb→eq (opOf v) configLimit (and-l op st d), status-is ∙ eqb→eq (status nr na bad v) 1 (and-r op st d)),

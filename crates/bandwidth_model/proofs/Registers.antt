@@ -1,149 +1,114 @@
--- The registers are the notes' after any list of calls.
-use mathlib.Core.Path.{_≡_, refl, ap, _∙_}
-use mathlib.Core.Bool.{Bool, cond}
-use mathlib.Core.List.{List, [], _∷_, _++_}
+-- What each call does to the registers and to the configured table, beside what the ledger knows of them.
+use mathlib.Core.Path.{_≡_, refl, sym, ap, subst⁻¹}
+use mathlib.Core.Bool.{Bool, false, cond, _&&_}
+use mathlib.Core.List.{List, [], _∷_}
 use Prim.Native.Nat.{ℕ}
-use lib.Dec.{T, eqb, eqb→eq}
-use Rattle.fields.specs.Layout.{unpack}
-use Rattle.fields.specs.Registers.{monCtl}
-use Rattle.runs.specs.Runs.{event, events, noteAfter}
-use Rattle.runs.specs.Settings.{settings}
-use Rattle.runs.proofs.Laws.{kept-after, note-part, performed-after}
-use Rattle.runs.proofs.Steps.{part-step}
 use Rattle.access.specs.Access as access
-use Rattle.tables.proofs.Tests.{cases, cond-yes}
-use Rattle.allocation.specs.Allocation.{allocWord}
-use Rattle.allocation.proofs.Read.{read-fields, read-sets}
-use Rattle.monitor.specs.Monitor.{cleared, monWord, monStatus, writeMon, counted}
+use Rattle.access.specs.Checks.{isReset, onWrite}
+use Rattle.access.specs.Pairs.{Setting}
+use Rattle.allocation.specs.Allocation.{configLimit, allocWord, tableAfter}
+use Rattle.monitor.specs.Monitor.{cleared, writeMon, monWord}
+use Rattle.monitor.specs.Tally.{Tally}
 use Rattle.monitor.specs.Bytes.{lastEvent}
-use Rattle.monitor.proofs.Control.{monWord-fields}
-use Rattle.monitor.proofs.Operations.{monStatus-lt}
-use Rattle.bandwidth_model.specs.Rules.{Setup, stored, allocStatus, badLimit}
-use Rattle.bandwidth_model.specs.Calls.{Call, reset, read, write, request, endWindow, done, value}
-use Rattle.bandwidth_model.specs.Model.{State, register, readAt, afterReset, afterWindow, writeAlloc, writeBw, withAlloc, withMonitor, writeAt, serve, serveFrom, requested, perform, step}
-use Rattle.bandwidth_model.specs.Ledger.{accepted, note, started}
-use Rattle.bandwidth_model.specs.Runs.{stateAfter, ledgerAfter, answerAfter}
-use Rattle.bandwidth_model.specs.Claim.{settingsBy}
-use Rattle.bandwidth_model.specs.Counters.{tally}
-use Rattle.bandwidth_model.specs.Registers.{Notes, notesStart, monStatusBy, allocBy, monBy, controlAfter, noteRegisters, notesAfter, RegisterReads, AllRegisterReads}
-use Rattle.bandwidth_model.proofs.Invariant.{Inv, inv-step}
-use Rattle.bandwidth_model.proofs.Counters.{Counts, counts-step, counts-first}
-use Rattle.bandwidth_model.proofs.Steps.{accepting, value-is}
-use Rattle.bandwidth_model.proofs.Lists.{reset-state, inv-first, inv-after}
+use Rattle.runs.specs.Claims.{controlAfter}
+use Rattle.runs.proofs.Settings as shared
+use Rattle.runs.proofs.Settings.{anew, none, sets-if, Settings}
+use Rattle.runs.proofs.Registers.{Parts, Registered, Agrees, Invariants, statusIn, monStatusIn}
+use Rattle.bandwidth_model.specs.Rules.{pairs, stored, badLimit, allocDone, limitOf}
+use Rattle.bandwidth_model.specs.Calls.{Call, kindOf}
+use Rattle.bandwidth_model.specs.Model.{State, Allocation, registers, register, readAt, afterReset, writeAlloc, writeBw, writeAt, perform}
+use Rattle.bandwidth_model.specs.Rules.{Setup}
+use Rattle.bandwidth_model.specs.Ledger.{Window, Ledger, accepted, settingsBy, tally}
+use Rattle.bandwidth_model.specs.Claim.{controller, book}
+use Rattle.bandwidth_model.proofs.Setup.{ranges}
+use Rattle.bandwidth_model.proofs.Accepted.{accepted-limit}
+use Rattle.bandwidth_model.proofs.Steps.{accepting, call-by, write-by}
+use Rattle.bandwidth_model.proofs.Invariant.{ledgerBy, Inv, keeps}
+use Rattle.bandwidth_model.proofs.Counters.{Counts, counts-first, counts-next}
 
--- ---- the control registers after one call
+abbrev pub parts : Parts State Setup
+parts = record {
+  setup = λ s. s .setup;
+  nr = λ su. su .nr;
+  na = λ su. su .na;
+  nm = λ su. su .nm;
+  last = lastEvent;
+  table = λ s. s .alloc .configured;
+  bad = λ s v. badLimit (s .setup) (s .alloc .configured) (s .alloc .bw) v;
+  registers = registers;
+}
 
 module _ (s : State) where
-  write-alloc : (offset v : ℕ)
-      → writeAt s offset v .alloc .ctl ≡ cond (eqb offset 24) (allocWord (s .setup .na) v 0 (allocStatus (s .setup) (s .alloc .configured) (s .alloc .bw) v)) (s .alloc .ctl)
-  unfolding writeAt writeAlloc writeBw
-  write-alloc offset v =
-      let w = writeAlloc (s .setup) (s .alloc .bw) (s .alloc .configured) v in
-      let b = withAlloc s (writeBw (s .alloc) v) in
-      let m = withMonitor s (writeMon (s .setup .na) (s .setup .nm) lastEvent (s .monitor) v) in
-      cases (λ x. cond x (withAlloc s w) (cond (eqb offset 32) b (cond (eqb offset 8) m s)) .alloc .ctl ≡ cond x (w .ctl) (s .alloc .ctl)) (eqb offset 24)
-      (λ t. refl)
-      (λ t. cases (λ x. cond x b (cond (eqb offset 8) m s) .alloc .ctl ≡ s .alloc .ctl) (eqb offset 32) (λ t. refl)
-      (λ t. cases (λ x. cond x m s .alloc .ctl ≡ s .alloc .ctl) (eqb offset 8) (λ t. refl) (λ t. refl)))
+  alloc-ctl : (c : Call) → perform s c .state .alloc .ctl ≡ controlAfter access.allocCtl (λ v. allocWord (s .setup .na) v 0 (statusIn parts s v)) (s .alloc .ctl) (kindOf c)
+  unfolding controlAfter afterReset writeAlloc writeBw
+  alloc-ctl =
+      let word : ℕ → ℕ = λ v. allocWord (s .setup .na) v 0 (statusIn parts s v) in
+      call-by s (λ k s′. s′ .alloc .ctl ≡ controlAfter access.allocCtl word (s .alloc .ctl) k) (λ su. refl)
+      (λ size offset v. write-by s (λ x y z t. t .alloc .ctl ≡ cond x (word v) (s .alloc .ctl)) offset v refl refl refl refl)
+      (λ s′ k. ap (λ (a : Allocation). a .ctl) (k .alloc))
 
-  write-mon : (offset v : ℕ)
-      → writeAt s offset v .monitor .ctl ≡ cond (eqb offset 8) (monWord (s .setup .na) v 0 (monStatus (s .setup .na) (s .setup .nm) lastEvent v)) (s .monitor .ctl)
-  unfolding writeAt writeMon
-  write-mon offset v =
-      let a = withAlloc s (writeAlloc (s .setup) (s .alloc .bw) (s .alloc .configured) v) in
-      let b = withAlloc s (writeBw (s .alloc) v) in
-      let w = writeMon (s .setup .na) (s .setup .nm) lastEvent (s .monitor) v in
-      let then : ℕ = cond (eqb offset 8) (w .ctl) (s .monitor .ctl) in
-      cases (λ x. cond x a (cond (eqb offset 32) b (cond (eqb offset 8) (withMonitor s w) s)) .monitor .ctl ≡ then) (eqb offset 24)
-      (λ t. rw (eqb→eq offset 24 t) refl)
-      (λ t. cases (λ x. cond x b (cond (eqb offset 8) (withMonitor s w) s) .monitor .ctl ≡ then) (eqb offset 32) (λ t. rw (eqb→eq offset 32 t) refl)
-      (λ t. cases (λ x. cond x (withMonitor s w) s .monitor .ctl ≡ cond x (w .ctl) (s .monitor .ctl)) (eqb offset 8) (λ t. refl) (λ t. refl)))
+  mon-ctl : (c : Call) → perform s c .state .monitor .ctl ≡ controlAfter access.monCtl (λ v. monWord (s .setup .na) v 0 (monStatusIn parts s v)) (s .monitor .ctl) (kindOf c)
+  unfolding controlAfter afterReset cleared writeMon
+  mon-ctl =
+      let word : ℕ → ℕ = λ v. monWord (s .setup .na) v 0 (monStatusIn parts s v) in
+      call-by s (λ k s′. s′ .monitor .ctl ≡ controlAfter access.monCtl word (s .monitor .ctl) k) (λ su. refl)
+      (λ size offset v. write-by s (λ x y z t. t .monitor .ctl ≡ cond z (word v) (s .monitor .ctl)) offset v refl refl refl refl) (λ s′ k. k .ctl)
 
-  perform-alloc : (c : Call)
-      → perform s c .state .alloc .ctl ≡ controlAfter 3 (λ v. allocWord (s .setup .na) v 0 (allocStatus (s .setup) (s .alloc .configured) (s .alloc .bw) v)) (s .alloc .ctl) c
-  unfolding perform controlAfter afterReset afterWindow requested serveFrom serve
-  perform-alloc (reset su) = refl
-  perform-alloc (read size offset) = refl
-  perform-alloc (write size offset v) = write-alloc offset v
-  perform-alloc (request rcid mcid at kind bytes) = refl
-  perform-alloc endWindow = refl
+pub registered : Registered controller parts
+unfolding perform readAt register writeAt writeAlloc accepted
+registered = record {
+  accepting = accepting;
+  resets-kind = λ u. refl;
+  writes-kind = λ size offset v. refl;
+  value = λ s size offset. refl;
+  value-accepted = λ v. tt;
+  value-tells = λ v w e. cc;
+  alloc = alloc-ctl;
+  mon = mon-ctl;
+  operand = λ s size v. refl;
+}
 
-  perform-mon : (c : Call)
-      → perform s c .state .monitor .ctl ≡ controlAfter 1 (λ v. monWord (s .setup .na) v 0 (monStatus (s .setup .na) (s .setup .nm) lastEvent v)) (s .monitor .ctl) c
-  unfolding perform controlAfter afterReset cleared afterWindow requested serveFrom serve counted
-  perform-mon (reset su) = refl
-  perform-mon (read size offset) = refl
-  perform-mon (write size offset v) = write-mon offset v
-  perform-mon (request rcid mcid at kind bytes) = refl
-  perform-mon endWindow = refl
+-- ---- with the ledger
 
--- ---- after any list
+abbrev Sets : State → State → List (Setting ℕ) → Bool → Type 0
+Sets = shared.Sets (parts .setup) (parts .nr) (parts .na) (parts .table)
 
-record Noted (s : State) (n : Notes) : Type 0 where
-  inv : Inv s (n .ledger)
-  counts : Counts s (n .tally)
-  alloc : s .alloc .ctl ≡ n .allocCtl
-  mon : s .monitor .ctl ≡ n .monCtl
+sets-call : (s : State) (asked granted : List ℕ) (sum : ℕ) (closed : List Window) (c : Call)
+    → Sets s (perform s c .state) (settingsBy (ledgerBy s asked granted sum closed) c) (isReset (kindOf c))
+unfolding settingsBy writeAlloc writeBw tableAfter
+sets-call s asked granted sum closed =
+    let su = s .setup in
+    let conf = s .alloc .configured in
+    let bw = s .alloc .bw in
+    let made : ℕ → Bool → List (Setting ℕ) = λ v x. cond (x && allocDone su conf bw configLimit v) (limitOf su bw v ∷ []) [] in
+    call-by s (λ k s′. Sets s s′ (onWrite k (λ size offset v. made v (access.writesLow offset access.allocCtl)) []) (isReset k)) (λ u. anew)
+    (λ size offset v. write-by s (λ x y z t. Sets s t (made v x) false) offset v
+    (sets-if _ _ _ _ s _ (limitOf su bw v) (allocDone su conf bw configLimit v) refl refl (λ d. let ok = accepted-limit su conf bw v d in (ok .rcid-low, ok .at-low)))
+    (none refl refl) (none refl refl) (none refl refl))
+    (λ s′ k. none (k .setup) (ap (λ (a : Allocation). a .configured) (k .alloc)))
 
-noted-step : (s : State) (n : Notes) → Noted s n → (c : Call) → Noted (step s c .state) (noteRegisters n (event step s c))
-unfolding noteRegisters
-noted-step s n k c =
-    let i = k .inv in
-    record {
-      inv = inv-step s (n .ledger) i c;
-      counts = counts-step s (n .ledger) (n .tally) i (k .counts) c;
-      alloc = part-step accepting s c (λ x. x .alloc .ctl) (controlAfter 3 (allocBy (n .ledger)) (n .allocCtl) c) (n .allocCtl) (perform-alloc s c ∙ rw (k .alloc, i .same) refl) (k .alloc);
-      mon = part-step accepting s c (λ x. x .monitor .ctl) (controlAfter 1 (monBy (n .ledger)) (n .monCtl) c) (n .monCtl) (perform-mon s c ∙ rw (k .mon, i .same) refl) (k .mon);
-    }
+pub setting : Settings controller book Inv (parts .setup) (λ l. l .setup) (parts .nr) (parts .na) (parts .table)
+unfolding pairs
+setting = record {
+  inv = keeps;
+  ends = λ p q. refl;
+  same = λ s l i. sym (ap (λ (k : Ledger). k .setup) (i .same));
+  long = λ s l i. i .good .alloc .configured .long;
+  sets = λ s l i c.
+      subst⁻¹ (λ (k : Ledger). Sets s (perform s c .state) (settingsBy k c) (isReset (kindOf c))) (i .same) (sets-call s (i .asked) (i .granted) (i .sum) (i .closed) c);
+}
 
-module _ (s : State) (su : Setup) (e : step s (reset su) .answer ≡ done) where
-  noted-first : Noted (step s (reset su) .state) (notesStart su)
-  unfolding notesStart afterReset cleared
-  noted-first = record {
-    inv = inv-first s su e;
-    counts = counts-first s su e;
-    alloc = ap (λ (x : State). x .alloc .ctl) (reset-state s su e);
-    mon = ap (λ (x : State). x .monitor .ctl) (reset-state s su e);
-  }
+agreeing : (s : State) (l : Ledger) → Inv s l → Agrees controller parts book s l
+unfolding settingsBy
+agreeing s l i =
+    subst⁻¹ (λ (k : Ledger). Agrees controller parts book s k) (i .same)
+    (record { na = refl; capabilities = refl; operand = refl; status = λ v. refl; mon = λ v. refl; value = stored (s .alloc .bw); sets = λ size v. refl })
 
-  noted-after : (cs : List Call) → Noted (stateAfter s su cs) (notesAfter s su cs)
-  noted-after = kept-after step reset s su noteRegisters notesStart Noted noted-step noted-first
-
-  -- an 8-byte read of a control register after a write of it
-  module _ (cs : List Call) (size v x : ℕ) where
-    read-alloc : T (accepted (answerAfter s su cs (write size 24 v))) → answerAfter s su (cs ++ write size 24 v ∷ []) (read 8 24) ≡ value x
-        → x ≡ allocBy (ledgerAfter s su cs) v
-    unfolding readAt register access.part perform writeAt writeAlloc
-    read-alloc a r =
-        value-is (stateAfter s su (cs ++ write size 24 v ∷ [])) 8 24 x r
-        ∙ ap (λ (y : State). y .alloc .ctl) (performed-after accepting reset s su cs (write size 24 v) a) ∙ rw (inv-after s su e cs .same) refl
-
-    read-mon : T (accepted (answerAfter s su cs (write size 8 v))) → answerAfter s su (cs ++ write size 8 v ∷ []) (read 8 8) ≡ value x
-        → x ≡ monBy (ledgerAfter s su cs) v
-    unfolding readAt register access.part perform writeAt writeMon
-    read-mon a r =
-        value-is (stateAfter s su (cs ++ write size 8 v ∷ [])) 8 8 x r
-        ∙ ap (λ (y : State). y .monitor .ctl) (performed-after accepting reset s su cs (write size 8 v) a) ∙ rw (inv-after s su e cs .same) refl
-
-  claim : (cs : List Call) → RegisterReads s su cs
-  unfolding noteAfter started notesStart noteRegisters readAt register settings settingsBy
-  claim cs =
-      let k = noted-after cs in
-      let l = ledgerAfter s su cs in
-      let nr = l .setup .nr in
-      let na = l .setup .na in
-      let bad : ℕ → Bool = badLimit (l .setup) (l .configured) (l .bw) in
-      let es = events step (step s (reset su) .state) cs in
-      record {
-        ledger = note-part (λ n. n .ledger) noteRegisters note (λ n e. refl) es (notesStart su);
-        tally = note-part (λ n. n .tally) noteRegisters tally (λ n e. refl) es (notesStart su);
-        reads = λ size offset v r. value-is (stateAfter s su cs) size offset v r ∙ rw (k .alloc, k .mon, k .inv .same, k .counts .same) refl;
-        alloc = λ size v x a r. read-fields nr na (bad v) v x (read-alloc cs size v x a r);
-        set = λ size v x a r.
-            rw (cond-yes (accepted (answerAfter s su cs (write size 24 v))) (settingsBy l (write size 24 v)) [] a)
-            (read-sets nr na (bad v) v x (read-alloc cs size v x a r) (stored (l .bw)));
-        mon = λ size v x a r. ap (unpack monCtl) (read-mon cs size v x a r) ∙ monWord-fields na v (monStatusBy l v) (monStatus-lt na (l .setup .nm) lastEvent v);
-      }
-
-pub register-reads : AllRegisterReads
-register-reads = record { always = λ s su cs e. claim s su e cs }
+pub invariants : Invariants controller parts book tally Inv Counts
+invariants = record {
+  inv = keeps;
+  first = λ s su e. counts-first s su;
+  next = λ s l t i k c. counts-next s t (ranges (s .setup) (i .good .setup) .w-high) k c;
+  agrees = agreeing;
+  shown = λ s t k. sym (ap (λ (x : Tally Setup ℕ). x .shown) (k .same));
+}

@@ -1,10 +1,6 @@
 -- The operand rules of CONFIG_LIMIT clause by clause: operands that are bad by one clause alone, and operands that are good.
-use mathlib.Core.Path.{_≡_}
-use mathlib.Core.Bool.{Bool, true, false, not}
-use mathlib.Core.List.{List, [], _∷_, map}
-use Prim.Native.Nat.{ℕ, _+_, _*_}
-use lib.ListN.{set}
-use Rattle.tables.specs.Notation.{_==_, _≤?_, _<?_}
+use Rattle.access.specs.Logic.{_≡_, Bool, true, false, not, List, [], _∷_, ℕ, _+_, _*_, set, _==_, _≤?_, _<?_}
+use mathlib.Core.List.{map}
 use Rattle.tables.specs.Below.{anyBelow}
 use Rattle.access.specs.Pairs.{pair, wordAt}
 use Rattle.bandwidth_model.specs.Rules.{Setup, rbwbOf, sharedAtOf, isHolder, total, shares, badOperand}
