@@ -1,11 +1,14 @@
 -- `masks::named_pair` meets its contract.
 use borrow.Author.Needs.{needs}
+use native.Mathlib.Omega.{arith}
 use mathlib.Core.Path.{refl}
 use Rattle.masks.proofs.named_pair.Statement.{statement}
 use Rattle.masks.proofs.named_pair.Tie as tie
 
 place-requires : tie.Need-place-requires
-place-requires c κs = (c .before .pre .na-high, (c .held-fields .ensures .rcid-low, c .held-fields .ensures .at-low))
+place-requires c κs =
+    let f = c .held-fields .ensures in
+    (c .before .pre .na-high, (omega (arith, f .rcid-low, f .at-low), omega (arith, f .at-low)))
 
 returns : tie.Need-returns
 returns c = rw (c .place .ensures, c .before .held-fields .ensures .rcid-is, c .before .held-fields .ensures .at-is) refl
