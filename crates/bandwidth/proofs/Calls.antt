@@ -27,12 +27,12 @@ use Rattle.bandwidth_model.specs.Calls.{Call, reset, read, write, request, endW
 use Rattle.bandwidth_model.specs.Claim.{isReset}
 use Rattle.bandwidth_model.specs.Model.{State, Allocation, Usage, Outcome, lengthsOk, argumentChecks, stateChecks, readAt, opened, afterReset, afterWindow, grantOf, grantSum, spend, serve, serveFrom, requested, writeAlloc, writeBw, writeAt, perform, step}
 use Rattle.bandwidth_model.proofs.Steps.{checking}
-use Rattle.settings.specs.View.{allocation, Ready}
-use Rattle.settings.specs.Rows.{writeRow, Reserves}
-use Rattle.settings.proofs.Rows.{row-reserves, row-write}
-use Rattle.grants.specs.View.{usage}
-use Rattle.grants.specs.Grants.{RowFits, RowGiven}
-use Rattle.grants.proofs.Rows.{row-fits, row-sum, row-spent}
+use Rattle.bandwidth_settings.specs.View.{allocation, Ready}
+use Rattle.bandwidth_settings.specs.Rows.{writeRow, Reserves}
+use Rattle.bandwidth_settings.proofs.Rows.{row-reserves, row-write}
+use Rattle.bandwidth_grants.specs.View.{usage}
+use Rattle.bandwidth_grants.specs.Grants.{RowFits, RowGiven}
+use Rattle.bandwidth_grants.proofs.Rows.{row-fits, row-sum, row-spent}
 use Rattle.bandwidth.specs.declared.check.Totals.{Totals}
 use Rattle.bandwidth.specs.View.{outcome}
 use Rattle.bandwidth.specs.Checked.{Passes, Fresh}

@@ -4,7 +4,7 @@ use mathlib.Core.Bool.{Bool, _&&_}
 use Prim.Native.Nat.{ℕ, _-_, _*_, _<_, _^_}
 use lib.Dec.{T, leb, eqb, eqb→eq}
 use lib.ListN.{getD}
-use Rattle.fields.specs.Layout.{kept}
+use Rattle.fields.specs.Layout.{namedBits}
 use Rattle.fields.specs.Registers as reg
 use Rattle.fields.proofs.Registers.{bandwidthCounter-kept}
 use Rattle.access.specs.Checks.{first}
@@ -19,8 +19,8 @@ use Rattle.bandwidth_model.specs.Model.{State, tableOk, usageOk, registersOk, l
 use Rattle.bandwidth_model.proofs.Setup.{setup-ok}
 use Rattle.bandwidth_model.proofs.Steps.{Passing}
 use Rattle.bandwidth_model.proofs.Settings.{TableFacts, table-facts}
-use Rattle.wellformed.specs.Tables.{tablesOk, TablesChecked}
-use Rattle.wellformed.specs.declared.TablesOk.{TablesOk}
+use Rattle.bandwidth_wellformed.specs.Tables.{tablesOk, TablesChecked}
+use Rattle.bandwidth_wellformed.specs.declared.TablesOk.{TablesOk}
 use Rattle.bandwidth.specs.declared.check.Totals.{Totals}
 use Rattle.bandwidth.specs.declared.check.Check.{Check}
 use Rattle.bandwidth.specs.declared.check.Check.the-variants.{Passed, Failed}
@@ -88,8 +88,8 @@ module _ (s : State) where
       let us = allBelow (pairs su) (λ i. leb (getD (u .used) i 0) (reserved (getD (u .active) i 0) * su .q)) in
       let ks = allBelow (su .nm) (λ i. counterOk reg.bandwidthCounter reg.bandwidthCtr (su .w) (getD (m .counters) i 0)) in
       let es = allBelow (su .nm) (λ i. settingOk (su .na) lastEvent (getD (m .events) i 0)) in
-      let vk = eqb (m .value) (kept reg.bandwidthCounter (m .value)) in
-      let vt : T vk = eqb-in (m .value) (kept reg.bandwidthCounter (m .value)) (named-all reg.bandwidthCounter bandwidthCounter-kept (m .value) v) in
+      let vk = eqb (m .value) (namedBits reg.bandwidthCounter (m .value)) in
+      let vt : T vk = eqb-in (m .value) (namedBits reg.bandwidthCounter (m .value)) (named-all reg.bandwidthCounter bandwidthCounter-kept (m .value) v) in
       let same : T ok → leb (u .pool) (left * su .q) ≡ leb (u .pool) ((su .nbwblks - total (u .active)) * su .q) =
       λ t. ap (λ (x : ℕ). leb (u .pool) (x * su .q)) (l ∙ ap (λ (x : ℕ). su .nbwblks - x) (f t)) in
       let whole : ok ≡ (ta && tc && us && ks && es) = e in

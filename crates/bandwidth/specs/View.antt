@@ -8,7 +8,7 @@ use lib.ListN.{set, replicate}
 use Rattle.bandwidth_model.specs.Rules.{Setup, holderWord, sharerWord, resetWeight}
 use Rattle.bandwidth_model.specs.Calls.{Answer, refused, done, value, granted}
 use Rattle.bandwidth_model.specs.Model.{State, Outcome}
-use Rattle.setup.specs.View.{setupOf}
+use Rattle.bandwidth_setup.specs.View.{setupOf}
 use Rattle.bandwidth.specs.declared.Record.{Record}
 use Rattle.access.specs.declared.Ack.{Ack}
 use Rattle.access.specs.declared.Ack.the-variants as ack

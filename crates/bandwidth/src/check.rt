@@ -1,19 +1,19 @@
 // Checks 1 to 3.
 use crate::Record;
 use access::Refusal;
+use bandwidth_settings::registers_ok;
+use bandwidth_setup::Setup;
+use bandwidth_wellformed::TablesOk;
+use bandwidth_wellformed::tables_ok;
 use monitor::control_ok;
-use settings::registers_ok;
-use setup::Setup;
-use tables::less;
-use wellformed::TablesOk;
-use wellformed::tables_ok;
+use tables::saturating_sub;
 ghost use mathlib.Core.Path.{_≡_};
 ghost use mathlib.Core.List.{List};
 ghost use Prim.Native.Nat.{ℕ};
 ghost use Rattle.bandwidth_model.specs.Facts.{Ranges};
 ghost use Rattle.bandwidth_model.specs.Model.{lengthsOk, wellFormed};
-ghost use Rattle.setup.specs.View.{setupOf};
-ghost use Rattle.wellformed.specs.Tables.{TablesChecked};
+ghost use Rattle.bandwidth_setup.specs.View.{setupOf};
+ghost use Rattle.bandwidth_wellformed.specs.Tables.{TablesChecked};
 ghost use Rattle.bandwidth.specs.View.{state, before};
 ghost use Rattle.bandwidth.specs.Checked.{Checked};
 
@@ -58,7 +58,7 @@ impl Record {
         ensures { λ ok. ⌜ ((active configured used counters events : List ℕ) → TablesChecked (setupOf (self .setup)) active configured used counters events tables → ok ≡ wellFormed (state self active configured used counters events)) ⌝ }
     {
         let setup = self.setup;
-        let left = less(setup.nbwblks, tables.active) * setup.q;
+        let left = saturating_sub(setup.nbwblks, tables.active) * setup.q;
         let registers = registers_ok(setup, self.alloc_ctl, self.bw_alloc)
             & control_ok(setup.na, self.mon_ctl);
         tables.ok & (self.pool <= left) & registers

@@ -9,9 +9,9 @@ mod window;
 use access::Ack;
 use access::Reading;
 use access::Refusal;
+use bandwidth_setup::Setup;
 pub use check::Totals;
 pub use reset::reset_row;
-use setup::Setup;
 
 // The set-up, the registers as they read, and the bytes that the pool gave.
 pub struct Record {

@@ -6,7 +6,7 @@ use crate::check::Check;
 use crate::check::Totals;
 use access::Refusal;
 use access::known_at;
-use grants::give;
+use bandwidth_grants::give;
 use monitor::count_bytes;
 use tables::row_at;
 ghost use mathlib.Core.Path.{_≡_};

@@ -3,8 +3,8 @@ use crate::Acked;
 use crate::Record;
 use access::Ack;
 use access::Refusal;
+use bandwidth_setup::Setup;
 use fields::BwAlloc;
-use setup::Setup;
 use tables::copy32;
 use tables::fill16;
 use tables::fill32;
@@ -16,7 +16,7 @@ ghost use Rattle.bandwidth_model.specs.Facts.{Ranges, Sized};
 ghost use Rattle.bandwidth_model.specs.Calls.{reset};
 ghost use Rattle.bandwidth_model.specs.Rules.{pairs, resetTable};
 ghost use Rattle.bandwidth_model.specs.Model.{step};
-ghost use Rattle.setup.specs.View.{setupOf};
+ghost use Rattle.bandwidth_setup.specs.View.{setupOf};
 ghost use Rattle.bandwidth.specs.View.{before, after, outcome, ackOf, resetRow};
 ghost use Rattle.bandwidth.specs.Checked.{Fresh};
 

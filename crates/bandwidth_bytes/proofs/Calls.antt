@@ -23,20 +23,20 @@ use Rattle.monitor.specs.Bytes.{lastEvent, countsRequest, added}
 use Rattle.monitor.specs.View.{monitorOf}
 use Rattle.monitor.specs.declared.Registers.{Registers}
 use Rattle.monitor_bytes.specs.Monitor as monitor
-use Rattle.settings.specs.declared.Written.{Written}
-use Rattle.grants.specs.declared.Given.{Given}
+use Rattle.bandwidth_settings.specs.declared.Written.{Written}
+use Rattle.bandwidth_grants.specs.declared.Given.{Given}
 use Rattle.replies.specs.Replies.{reply, refusal}
 use Rattle.replies.proofs.Laws as laws
 use Rattle.bandwidth_model.specs.Rules.{Setup, pairs, bwWord}
 use Rattle.bandwidth_model.specs.Calls.{Call, reset, read, write, request, endWindow, refused, done, value, granted}
 use Rattle.bandwidth_model.specs.Claim.{isReset}
 use Rattle.bandwidth_model.specs.Model.{State, Outcome, writeAlloc, writeAt, step}
-use Rattle.setup.specs.View.{setupOf}
+use Rattle.bandwidth_setup.specs.View.{setupOf}
 use Rattle.bandwidth.specs.declared.Record.{Record}
 use Rattle.bandwidth.specs.View.{state, outcome, readingOf}
 use Rattle.bandwidth.proofs.Calls as bandwidth
 use Rattle.bandwidth.proofs.Calls.{end-done, request-unknown, request-done, known-rcid, request-fits, serve-row, write-alloc-at, write-bw-at, write-mon-at, write-none}
-use Rattle.bandwidth_bytes.specs.Bytes.{Lent, lent, stateOf, bytesOf, pointers, Reply, replyTo, setupFor, byteRefusal, stepBytes}
+use Rattle.bandwidth_bytes.specs.Bytes.{Lent, lent, stateOf, lentOf, pointers, Reply, replyTo, setupFor, byteRefusal, stepBytes}
 use Rattle.bandwidth_bytes.specs.View.{wordsIn, stateIn, Tables, Words, Passing, Checked, GiveFits, Gave, Stores}
 use Rattle.bandwidth_bytes.specs.declared.check.Held.{Held}
 use Rattle.bandwidth_bytes.specs.declared.check.Check.{Check}
@@ -85,8 +85,8 @@ module _ (l : Lent) (r : Record) (w : wordsIn r ≡ wordsOf 8 12 (l .«record»)
 
 -- bytes that are those of a record's words and of the words of each table
 pub same-bytes : (r : Record) (a c u n e R A C U N E : List ℕ) → R ≡ bytesOfAll 8 (wordsIn r) → A ≡ bytesOfAll 4 a → C ≡ bytesOfAll 4 c → U ≡ bytesOfAll 4 u
-    → N ≡ bytesOfAll 8 n → E ≡ bytesOfAll 2 e → lent R A C U N E ≡ bytesOf (state r a c u n e)
-unfolding bytesOf
+    → N ≡ bytesOfAll 8 n → E ≡ bytesOfAll 2 e → lent R A C U N E ≡ lentOf (state r a c u n e)
+unfolding lentOf
 same-bytes r a c u n e R A C U N E p q₁ q₂ q₃ q₄ q₅ = rw (p, q₁, q₂, q₃, q₄, q₅) refl
 
 module _ {l : Lent} {h : Held} (p : Passing l h) where
@@ -94,7 +94,7 @@ module _ {l : Lent} {h : Held} (p : Passing l h) where
   s = stateIn l (h .«record»)
 
   -- the bytes of a state that is kept
-  kept : l ≡ bytesOf s
+  kept : l ≡ lentOf s
   kept =
       let w = p .words in
       same-bytes (h .«record») _ _ _ _ _ _ _ _ _ _ _ (w .«record» .bytes-are) (w .active .bytes-are) (w .configured .bytes-are) (w .used .bytes-are) (w .counters .bytes-are) (w .events .bytes-are)
@@ -104,13 +104,13 @@ module _ {l : Lent} {h : Held} (p : Passing l h) where
     pub refused-then : (n : ℕ) → outcome (refused n) s ≡ step s c → refusal n (pointers c) l ≡ stepBytes l c
     refused-then n e = answered l (h .«record») (p .record-is) (p .none) c t _ e _ refl
 
-    pub done-then : (x : State) (l′ : Lent) → outcome done x ≡ step s c → l′ ≡ bytesOf x → reply 0 [] l′ ≡ stepBytes l c
+    pub done-then : (x : State) (l′ : Lent) → outcome done x ≡ step s c → l′ ≡ lentOf x → reply 0 [] l′ ≡ stepBytes l c
     done-then x l′ e q = answered l (h .«record») (p .record-is) (p .none) c t _ e _ (ap (reply 0 []) q)
 
     pub value-then : (v : ℕ) → outcome (value v) s ≡ step s c → reply 0 (v ∷ []) l ≡ stepBytes l c
     value-then v e = answered l (h .«record») (p .record-is) (p .none) c t _ e _ (ap (reply 0 (v ∷ [])) kept)
 
-    pub granted-then : (v : ℕ) (x : State) (l′ : Lent) → outcome (granted v) x ≡ step s c → l′ ≡ bytesOf x → reply 0 (v ∷ []) l′ ≡ stepBytes l c
+    pub granted-then : (v : ℕ) (x : State) (l′ : Lent) → outcome (granted v) x ≡ step s c → l′ ≡ lentOf x → reply 0 (v ∷ []) l′ ≡ stepBytes l c
     granted-then v x l′ e q = answered l (h .«record») (p .record-is) (p .none) c t _ e _ (ap (reply 0 (v ∷ [])) q)
 
 -- ---- each call
@@ -177,7 +177,7 @@ module _ {l : Lent} {h : Held} (p : Passing l h) where
     write-refused why n e i = rw i (refused-then p (write size offset v) tt (numberOf why) (bandwidth.write-refused (p .passes) size offset v why e))
 
     pub written : (r : Record) (R A C U N E : List ℕ) → 0 ≡ first (writeChecks registersEnd size offset v) 0 → R ≡ bytesOfAll 8 (wordsIn r)
-        → lent (bytesOfAll 8 (wordsIn r)) A C U N E ≡ bytesOf (writeAt (stateIn l (h .«record»)) offset v) → reply 0 [] (lent R A C U N E) ≡ stepBytes l (write size offset v)
+        → lent (bytesOfAll 8 (wordsIn r)) A C U N E ≡ lentOf (writeAt (stateIn l (h .«record»)) offset v) → reply 0 [] (lent R A C U N E) ≡ stepBytes l (write size offset v)
     written r R A C U N E e q b =
         done-then p (write size offset v) tt _ _ (bandwidth.write-done (p .passes) size offset v _ e refl) (ap (λ (x : List ℕ). lent x A C U N E) q ∙ b)
 
@@ -190,34 +190,34 @@ module _ {l : Lent} {h : Held} (p : Passing l h) where
 
     pub alloc-written : {r : Written} {C : List ℕ} → offset ≡ 24 → Stores (writeAlloc su (old .«bw_alloc») (tableOf 4 (l .configured)) v) r C
         → lent (bytesOfAll 8 (wordsIn (record { setup = old .setup; «mon_ctl» = old .«mon_ctl»; «mon_ctr_val» = old .«mon_ctr_val»; «alloc_ctl» = r .ctl; «bw_alloc» = r .bw; pool = old .pool })))
-        (l .active) C (l .used) (l .counters) (l .events) ≡ bytesOf left
+        (l .active) C (l .used) (l .counters) (l .events) ≡ lentOf left
     alloc-written {r} {C} e s =
         let x = p .words in
         same-bytes _ _ _ _ _ _ _ _ _ _ _ _ refl (x .active .bytes-are) (s .bytes-are) (x .used .bytes-are) (x .counters .bytes-are) (x .events .bytes-are)
-        ∙ ap bytesOf (write-alloc-at (stateIn l old) offset v _ e (rw (s .ctl-is, s .bw-is) refl))
+        ∙ ap lentOf (write-alloc-at (stateIn l old) offset v _ e (rw (s .ctl-is, s .bw-is) refl))
 
     pub bw-written : {w : ℕ} → offset ≡ 32 → w ≡ bwWord v
         → lent (bytesOfAll 8 (wordsIn (record { setup = old .setup; «mon_ctl» = old .«mon_ctl»; «mon_ctr_val» = old .«mon_ctr_val»; «alloc_ctl» = old .«alloc_ctl»; «bw_alloc» = w; pool = old .pool })))
-        (l .active) (l .configured) (l .used) (l .counters) (l .events) ≡ bytesOf left
+        (l .active) (l .configured) (l .used) (l .counters) (l .events) ≡ lentOf left
     bw-written {w} e q =
         let x = p .words in
         same-bytes _ _ _ _ _ _ _ _ _ _ _ _ refl (x .active .bytes-are) (x .configured .bytes-are) (x .used .bytes-are) (x .counters .bytes-are) (x .events .bytes-are)
-        ∙ ap bytesOf (write-bw-at (stateIn l old) offset v w e q)
+        ∙ ap lentOf (write-bw-at (stateIn l old) offset v w e q)
 
     pub mon-written : {st : ℕ} {r : Registers} {N E : List ℕ} → offset ≡ 8 → Small (monStatus (su .na) (su .nm) lastEvent v) 5 st
         → ((ns es : List ℕ) → Holds 8 (l .counters) ns → Holds 2 (l .events) es
         → monitor.Stores (monAfter (su .na) st (monitorOf (record { ctl = old .«mon_ctl»; value = old .«mon_ctr_val» }) ns es) v) r N E)
         → lent (bytesOfAll 8 (wordsIn (record { setup = old .setup; «mon_ctl» = r .ctl; «mon_ctr_val» = r .value; «alloc_ctl» = old .«alloc_ctl»; «bw_alloc» = old .«bw_alloc»; pool = old .pool })))
-        (l .active) (l .configured) (l .used) N E ≡ bytesOf left
+        (l .active) (l .configured) (l .used) N E ≡ lentOf left
     mon-written e i q =
         let x = p .words in
         let s = q _ _ (x .counters) (x .events) in
         same-bytes _ _ _ _ _ _ _ _ _ _ _ _ refl (x .active .bytes-are) (x .configured .bytes-are) (x .used .bytes-are) (s .counters-are) (s .events-are)
-        ∙ ap bytesOf (write-mon-at (stateIn l old) offset v _ _ e i (rw (s .ctl-is, s .value-is) refl))
+        ∙ ap lentOf (write-mon-at (stateIn l old) offset v _ _ e i (rw (s .ctl-is, s .value-is) refl))
 
     pub none-written : (offset ≡ 24 → ⊥) → (offset ≡ 32 → ⊥) → (offset ≡ 8 → ⊥)
-        → lent (bytesOfAll 8 (wordsIn old)) (l .active) (l .configured) (l .used) (l .counters) (l .events) ≡ bytesOf left
+        → lent (bytesOfAll 8 (wordsIn old)) (l .active) (l .configured) (l .used) (l .counters) (l .events) ≡ lentOf left
     none-written a b c =
         let x = p .words in
         same-bytes _ _ _ _ _ _ _ _ _ _ _ _ refl (x .active .bytes-are) (x .configured .bytes-are) (x .used .bytes-are) (x .counters .bytes-are) (x .events .bytes-are)
-        ∙ ap bytesOf (write-none (stateIn l old) offset v a b c)
+        ∙ ap lentOf (write-none (stateIn l old) offset v a b c)

@@ -18,10 +18,10 @@ use Rattle.access.specs.declared.Refusal.the-variants as why
 use Rattle.monitor.specs.Monitor.{counterOk, settingOk}
 use Rattle.monitor.specs.Bytes.{lastEvent}
 use Rattle.replies.specs.Replies.{refusal}
-use Rattle.setup.specs.View.{setupOf}
-use Rattle.wellformed.specs.Tables.{TablesChecked, Rows, Summed, SummedTables}
-use Rattle.wellformed.specs.declared.TablesOk.{TablesOk}
-use Rattle.wellformed.specs.declared.settings.Sums.{Sums}
+use Rattle.bandwidth_setup.specs.View.{setupOf}
+use Rattle.bandwidth_wellformed.specs.Tables.{TablesChecked, Rows, Summed, SummedTables}
+use Rattle.bandwidth_wellformed.specs.declared.TablesOk.{TablesOk}
+use Rattle.bandwidth_wellformed.specs.declared.settings.Sums.{Sums}
 use Rattle.bandwidth_model.specs.Rules.{Setup, setupOk, pairs}
 use Rattle.bandwidth_model.specs.Calls.{Call, refused}
 use Rattle.bandwidth_model.specs.Claim.{isReset}

@@ -11,13 +11,13 @@ use Rattle.tables.proofs.Parts.{part-at, part-length}
 use Rattle.bandwidth_model.specs.Rules.{Setup}
 use Rattle.bandwidth_model.specs.Model.{Allocation, writeAlloc}
 use Rattle.allocation.specs.Allocation.{rcidOf}
-use Rattle.settings.specs.View.{allocation, Ready}
-use Rattle.settings.specs.declared.Written.{Written}
-use Rattle.settings.proofs.Rows.{row-write}
-use Rattle.grants.specs.Grants.{RowFits, RowGiven}
-use Rattle.wellformed.specs.Bits.{SpanAt}
-use Rattle.wellformed.specs.Tables.{Rows, Summed}
-use Rattle.wellformed.specs.declared.settings.Sums.{Sums}
+use Rattle.bandwidth_settings.specs.View.{allocation, Ready}
+use Rattle.bandwidth_settings.specs.declared.Written.{Written}
+use Rattle.bandwidth_settings.proofs.Rows.{row-write}
+use Rattle.bandwidth_grants.specs.Grants.{RowFits, RowGiven}
+use Rattle.bandwidth_wellformed.specs.Bits.{SpanAt}
+use Rattle.bandwidth_wellformed.specs.Tables.{Rows, Summed}
+use Rattle.bandwidth_wellformed.specs.declared.settings.Sums.{Sums}
 use Rattle.bandwidth_bytes.specs.View.{PartIn, Wrote, Stores}
 
 -- as many words as the array holds

@@ -11,8 +11,8 @@ use Rattle.words.specs.Words.{bytesOfAll}
 use Rattle.words.proofs.Table.{zero-bytes}
 use Rattle.replies.specs.Replies.{reply}
 use Rattle.replies.proofs.Laws as laws
-use Rattle.setup.specs.View.{setupOf}
-use Rattle.setup.specs.declared.Setup.{Setup}
+use Rattle.bandwidth_setup.specs.View.{setupOf}
+use Rattle.bandwidth_setup.specs.declared.Setup.{Setup}
 use Rattle.bandwidth_model.specs.Rules as rules
 use Rattle.bandwidth_model.specs.Rules.{setupOk, pairs, resetTable}
 use Rattle.bandwidth_model.specs.Calls.{reset}

@@ -9,13 +9,13 @@ use lib.Dec.{T}
 use lib.ListN.{length, replicate}
 use Rattle.words.specs.Words.{wordsOf, bytesOfAll, tableOf, Holds}
 use Rattle.tables.specs.Parts.{part, withPart}
-use Rattle.settings.specs.View.{allocation}
-use Rattle.settings.specs.Rows.{writeRow}
-use Rattle.settings.specs.declared.Written.{Written}
-use Rattle.grants.specs.Grants.{RowFits, RowGiven}
-use Rattle.grants.specs.declared.Given.{Given}
+use Rattle.bandwidth_settings.specs.View.{allocation}
+use Rattle.bandwidth_settings.specs.Rows.{writeRow}
+use Rattle.bandwidth_settings.specs.declared.Written.{Written}
+use Rattle.bandwidth_grants.specs.Grants.{RowFits, RowGiven}
+use Rattle.bandwidth_grants.specs.declared.Given.{Given}
 use Rattle.replies.specs.Replies.{refusal}
-use Rattle.setup.specs.View.{setupOf}
+use Rattle.bandwidth_setup.specs.View.{setupOf}
 use Rattle.bandwidth_model.specs.Rules.{Setup, pairs, resetTable}
 use Rattle.bandwidth_model.specs.Calls.{Call}
 use Rattle.bandwidth_model.specs.Claim.{isReset}

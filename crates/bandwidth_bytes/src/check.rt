@@ -4,9 +4,9 @@ use crate::record::load_record;
 use crate::sums::sum_bytes;
 use bandwidth::Record;
 use bandwidth::Totals;
+use bandwidth_wellformed::tables_by;
 use monitor_bytes::bandwidth_counters_ok;
 use monitor_bytes::events_ok;
-use wellformed::tables_by;
 ghost use Rattle.bandwidth_bytes.specs.View.{before, Checked};
 
 // The highest EVT_ID that the bandwidth controller knows.

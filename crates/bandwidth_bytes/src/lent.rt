@@ -1,9 +1,9 @@
 // The lengths of the lent bytes: checks 1 and 2.
 use crate::record::load_record;
-use setup::Setup;
+use bandwidth_setup::Setup;
 use tables::pick;
 ghost use mathlib.Core.Path.{_≡_};
-ghost use Rattle.setup.specs.View.{setupOf};
+ghost use Rattle.bandwidth_setup.specs.View.{setupOf};
 ghost use Rattle.bandwidth_bytes.specs.Bytes.{stateOf, byteRefusal};
 ghost use Rattle.bandwidth_bytes.specs.View.{before};
 

@@ -1,6 +1,6 @@
 // The bandwidth controller's record as bytes.
 use bandwidth::Record;
-use setup::Setup;
+use bandwidth_setup::Setup;
 use words::decode64;
 use words::encode64;
 ghost use mathlib.Core.Path.{_≡_};

@@ -1,9 +1,9 @@
 // Check 3 over the settings and used bytes: the words of each part, in small arrays.
-use wellformed::Sums;
-use wellformed::add_sums;
-use wellformed::no_sums;
-use wellformed::span_at;
-use wellformed::sum_rows;
+use bandwidth_wellformed::Sums;
+use bandwidth_wellformed::add_sums;
+use bandwidth_wellformed::no_sums;
+use bandwidth_wellformed::span_at;
+use bandwidth_wellformed::sum_rows;
 use words::load_part32;
 use words::load32;
 use words::word32;
@@ -12,8 +12,8 @@ ghost use lib.Dec.{T};
 ghost use lib.ListN.{length, getD};
 ghost use Rattle.tables.specs.Parts.{part};
 ghost use Rattle.words.specs.Words.{tableOf};
-ghost use Rattle.wellformed.specs.Bits.{AtMost};
-ghost use Rattle.wellformed.specs.Tables.{Rows, Zeros, Summed};
+ghost use Rattle.bandwidth_wellformed.specs.Bits.{AtMost};
+ghost use Rattle.bandwidth_wellformed.specs.Tables.{Rows, Zeros, Summed};
 ghost use Rattle.bandwidth_bytes.specs.View.{PartIn, Loads};
 
 // Whether n words from the word `from` on are 0.

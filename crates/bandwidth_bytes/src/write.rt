@@ -7,14 +7,14 @@ use access::Verdict;
 use access::refusal_number;
 use access::write_verdict;
 use bandwidth::Record;
+use bandwidth_settings::Written;
+use bandwidth_settings::bw_word;
+use bandwidth_settings::named_row;
+use bandwidth_settings::write_row;
+use bandwidth_setup::Setup;
 use monitor::Registers;
 use monitor::bandwidth_status;
 use monitor_bytes::write_mon;
-use settings::Written;
-use settings::bw_word;
-use settings::named_row;
-use settings::write_row;
-use setup::Setup;
 use words::load_part32;
 use words::store_part32;
 ghost use mathlib.Core.Path.{_≡_};
@@ -22,13 +22,13 @@ ghost use mathlib.Core.List.{List, []};
 ghost use Prim.Native.Nat.{ℕ, _+_, _*_, _≤_};
 ghost use lib.ListN.{length};
 ghost use Rattle.words.specs.Words.{bytesOfAll, Holds};
-ghost use Rattle.setup.specs.View.{setupOf};
-ghost use Rattle.settings.specs.View.{Ready};
-ghost use Rattle.settings.specs.Rows.{Reserves};
+ghost use Rattle.bandwidth_setup.specs.View.{setupOf};
+ghost use Rattle.bandwidth_settings.specs.View.{Ready};
+ghost use Rattle.bandwidth_settings.specs.Rows.{Reserves};
 ghost use Rattle.replies.specs.Replies.{reply};
 ghost use Rattle.bandwidth_model.specs.Calls.{write};
 ghost use Rattle.bandwidth_model.specs.Model.{writeAlloc, writeAt};
-ghost use Rattle.bandwidth_bytes.specs.Bytes.{lent, bytesOf, stepBytes};
+ghost use Rattle.bandwidth_bytes.specs.Bytes.{lent, lentOf, stepBytes};
 ghost use Rattle.bandwidth_bytes.specs.View.{before, after, wordsIn, stateIn, Passing, Wrote, Stores};
 
 // A write of v to alloc_ctl by n words of the RCID that it names from the word `from` on, with an array for them.
@@ -85,7 +85,7 @@ fn store(
 ) -> Record
     requires { ⌜ Passing (lent (now «record») (now active) (now configured) (now used) (now counters) (now events)) held ⌝ }
     ensures { λ r. ⌜ lent (bytesOfAll 8 (wordsIn r)) (active .entry .now) (configured .exit .now) (used .entry .now) (counters .exit .now) (events .exit .now)
-        ≡ bytesOf (writeAt (stateIn (before «record» active configured used counters events) (held .«record»)) offset value) ⌝ }
+        ≡ lentOf (writeAt (stateIn (before «record» active configured used counters events) (held .«record»)) offset value) ⌝ }
 {
     let mut next = held.record;
     let totals = held.totals;

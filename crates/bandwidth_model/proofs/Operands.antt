@@ -7,5 +7,5 @@ use Rattle.bandwidth_model.specs.Model.{tableOk, pairOk}
 use Rattle.bandwidth_model.specs.Operands.{asHolder, asSharer, Operands}
 
 pub operands : Operands
-unfolding asHolder asSharer tableOk pairOk rules.badOperand rules.badSharer rules.shares rules.badHolder rules.total rules.reserved rules.isSharer rules.isHolder rules.stored rules.sharerWord rules.holderWord rules.useSharedOf rules.sharedAtOf rules.weightOf rules.rbwbOf pair wordAt sumBelow allBelow anyBelow sumOf
+unfolding asHolder asSharer tableOk pairOk rules.badOperand rules.badSharer rules.shares rules.badHolder rules.total rules.reserved rules.isSharer rules.isHolder rules.storedForm rules.sharerWord rules.holderWord rules.useSharedOf rules.sharedAtOf rules.weightOf rules.rbwbOf pair wordAt sumBelow allBelow anyBelow sumOf
 operands = record { formed = refl; held = refl; uncounted = refl; shared = refl }

@@ -14,7 +14,7 @@ use Rattle.runs.specs.Claims.{controlAfter}
 use Rattle.runs.proofs.Settings as shared
 use Rattle.runs.proofs.Settings.{anew, none, sets-if, Settings}
 use Rattle.runs.proofs.Registers.{Parts, Registered, Agrees, Invariants, statusIn, monStatusIn}
-use Rattle.bandwidth_model.specs.Rules.{pairs, stored, badLimit, allocDone, limitOf}
+use Rattle.bandwidth_model.specs.Rules.{pairs, storedForm, badLimit, allocDone, limitOf}
 use Rattle.bandwidth_model.specs.Calls.{Call, kindOf}
 use Rattle.bandwidth_model.specs.Model.{State, Allocation, registers, register, readAt, afterReset, writeAlloc, writeBw, writeAt, perform}
 use Rattle.bandwidth_model.specs.Rules.{Setup}
@@ -102,7 +102,7 @@ agreeing : (s : State) (l : Ledger) → Inv s l → Agrees controller parts book
 unfolding settingsBy
 agreeing s l i =
     subst⁻¹ (λ (k : Ledger). Agrees controller parts book s k) (i .same)
-    (record { na = refl; capabilities = refl; operand = refl; status = λ v. refl; mon = λ v. refl; value = stored (s .alloc .bw); sets = λ size v. refl })
+    (record { na = refl; capabilities = refl; operand = refl; status = λ v. refl; mon = λ v. refl; value = storedForm (s .alloc .bw); sets = λ size v. refl })
 
 pub invariants : Invariants controller parts book tally Inv Counts
 invariants = record {

@@ -28,8 +28,8 @@ use Rattle.capacity_model.specs.Claim.{isReset}
 use Rattle.capacity_model.specs.Model.{State, Allocation, Outcome, argumentChecks, setupChecks, stateChecks, afterReset, writeAlloc, writeMask, writeAt, noteBlock, fillAllowed, fillWith, perform, step}
 use Rattle.runs.proofs.Checks.{step-failed, step-refused, step-done, reset-failed, reset-done}
 use Rattle.capacity_model.proofs.Steps.{checking}
-use Rattle.masks.specs.View.{allocation}
-use Rattle.masks.specs.declared.AllocWords.{AllocWords}
+use Rattle.capacity_masks.specs.View.{allocation}
+use Rattle.capacity_masks.specs.declared.AllocWords.{AllocWords}
 use Rattle.capacity.specs.View.{state, outcome}
 use Rattle.capacity.specs.Checked.{Passed, CounterIn, WordsIn, pairOf, wrote}
 use Rattle.capacity.specs.declared.WriteWords.{WriteWords}

@@ -8,7 +8,7 @@ use native.Mathlib.Omega.{arith}
 use lib.Dec.{T, eqb, eqb→eq, nleb→lt, leb, ltb→lt, lt→ltb, ltb}
 use lib.ListN.{getD}
 use lib.Pow.{pow-pos}
-use Rattle.fields.specs.Layout.{get, kept}
+use Rattle.fields.specs.Layout.{get, namedBits}
 use Rattle.fields.specs.Registers as reg
 use Rattle.fields.proofs.Registers.{capacityCounter-kept}
 use Rattle.tables.specs.Below.{allBelow}
@@ -85,10 +85,10 @@ module _ (s : State) where
   and-one false = refl
 
   -- every word below 2^64 has only named bits of a capacity counter
-  value-test : s .monitor .value < 2 ^ 64 → eqb (s .monitor .value) (kept reg.capacityCounter (s .monitor .value)) ≡ true
+  value-test : s .monitor .value < 2 ^ 64 → eqb (s .monitor .value) (namedBits reg.capacityCounter (s .monitor .value)) ≡ true
   value-test h =
       let v = s .monitor .value in
-      eq-eqb v (kept reg.capacityCounter v) (named-all reg.capacityCounter capacityCounter-kept v h)
+      eq-eqb v (namedBits reg.capacityCounter v) (named-all reg.capacityCounter capacityCounter-kept v h)
 
   pub well-formed-is : {m k e : Bool} → TablesJudged (s .setup) (s .alloc .masks) (s .monitor .counters) (s .monitor .events) m k e → s .monitor .value < 2 ^ 64 → (a b c : Bool)
       → a ≡ controlOk (s .setup .na) (s .alloc .ctl) → b ≡ eqb (s .alloc .mask) (maskOf (s .setup) (s .alloc .mask))
@@ -119,6 +119,6 @@ counter-low s p mcid =
     let ok : ℕ → Bool = λ x. counterOk reg.capacityCounter reg.capacityCtr (s .setup .w) x in
     let all : T (allBelow (s .setup .nm) (λ i. ok (getD (s .monitor .counters) i 0))) = search (and-l, and-r) depth 8 in
     let word = getD (s .monitor .counters) mcid 0 in
-    let none : T (ok 0) = and-in (ltb (get reg.capacityCtr 0) (2 ^ s .setup .w)) (eqb 0 (kept reg.capacityCounter 0)) (lt→ltb (get reg.capacityCtr 0) (2 ^ s .setup .w) (omega (arith, pow-pos (s .setup .w)))) tt in
+    let none : T (ok 0) = and-in (ltb (get reg.capacityCtr 0) (2 ^ s .setup .w)) (eqb 0 (namedBits reg.capacityCounter 0)) (lt→ltb (get reg.capacityCtr 0) (2 ^ s .setup .w) (omega (arith, pow-pos (s .setup .w)))) tt in
     ltb→lt (get reg.capacityCtr word) (2 ^ s .setup .w)
-    (and-l (ltb (get reg.capacityCtr word) (2 ^ s .setup .w)) (eqb word (kept reg.capacityCounter word)) (every-below ok (s .monitor .counters) (s .setup .nm) (p .sized .counters-long) none all mcid))
+    (and-l (ltb (get reg.capacityCtr word) (2 ^ s .setup .w)) (eqb word (namedBits reg.capacityCounter word)) (every-below ok (s .monitor .counters) (s .setup .nm) (p .sized .counters-long) none all mcid))

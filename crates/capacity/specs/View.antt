@@ -11,7 +11,7 @@ use Rattle.access.specs.declared.Reading.{Reading}
 use Rattle.access.specs.declared.Reading.the-variants as reading
 use Rattle.capacity_model.specs.Calls.{Answer, refused, done, value, allowed}
 use Rattle.capacity_model.specs.Model.{State, Outcome}
-use Rattle.masks.specs.View.{setupOf, allocation}
+use Rattle.capacity_masks.specs.View.{setupOf, allocation}
 use Rattle.capacity.specs.declared.Record.{Record}
 use Rattle.capacity.specs.declared.Filling.{Filling}
 use Rattle.capacity.specs.declared.Filling.the-variants as filling

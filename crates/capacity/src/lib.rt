@@ -7,8 +7,8 @@ mod reset;
 use access::Ack;
 use access::Reading;
 use access::Refusal;
+use capacity_masks::Setup;
 pub use check::LAST_EVENT;
-use masks::Setup;
 
 // The set-up, and the registers as they read.
 pub struct Record {

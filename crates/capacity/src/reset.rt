@@ -3,8 +3,8 @@ use crate::Acked;
 use crate::Record;
 use access::Ack;
 use access::Verdict;
-use masks::Setup;
-use masks::all_blocks;
+use capacity_masks::Setup;
+use capacity_masks::all_blocks;
 use tables::fill16;
 use tables::fill64;
 ghost use mathlib.Core.Path.{_≡_};
@@ -13,7 +13,7 @@ ghost use Rattle.capacity_model.specs.Facts.{Ranges};
 ghost use Rattle.capacity_model.specs.Calls.{reset};
 ghost use Rattle.capacity_model.specs.Rules.{pairs, resetMasks};
 ghost use Rattle.capacity_model.specs.Model.{step};
-ghost use Rattle.masks.specs.View.{setupOf};
+ghost use Rattle.capacity_masks.specs.View.{setupOf};
 ghost use Rattle.capacity.specs.View.{before, after, outcome, ackOf};
 
 // The masks of a reset: every block for each AT of RCID 0, and else none.

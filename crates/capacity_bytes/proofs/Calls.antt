@@ -16,7 +16,7 @@ use Rattle.access.specs.declared.Refusal.the-variants as why
 use Rattle.replies.specs.Replies.{reply, refusal}
 use Rattle.replies.proofs.Laws as laws
 use Rattle.monitor.specs.Monitor.{mcidOf}
-use Rattle.masks.specs.View.{setupOf}
+use Rattle.capacity_masks.specs.View.{setupOf}
 use Rattle.capacity_model.specs.Rules.{Setup, pairs}
 use Rattle.capacity_model.specs.Calls.{Call, reset, read, write, fill, evict, Answer, refused, done, value, allowed}
 use Rattle.capacity_model.specs.Claim.{isReset}
@@ -30,7 +30,7 @@ use Rattle.capacity.specs.View.{state, outcome, ackOf}
 use Rattle.capacity.specs.Checked.{pairOf, wrote}
 use Rattle.capacity.proofs.Checks.{setup-passes, state-judged}
 use Rattle.capacity.proofs.Calls.{call-failed}
-use Rattle.capacity_bytes.specs.Bytes.{Lent, lent, stateOf, bytesOf, Reply, pointers, replyTo, setupFor, byteRefusal, stepBytes}
+use Rattle.capacity_bytes.specs.Bytes.{Lent, lent, stateOf, lentOf, Reply, pointers, replyTo, setupFor, byteRefusal, stepBytes}
 use Rattle.capacity_bytes.specs.View.{numberIn, valuesIn, wordsIn, stateIn, HeldIn, Checked}
 use Rattle.capacity_bytes.specs.declared.check.Check.{Check}
 use Rattle.capacity_bytes.specs.declared.check.Check.the-variants as check
@@ -103,42 +103,42 @@ module _ (l : Lent) (r : Record) (w : wordsIn r ≡ wordsOf 8 9 (l .«record»))
 -- ---- a call in a state that passes checks 1 to 3
 
 module _ {l : Lent} {r : Record} (h : HeldIn l r) where
-  same-bytes : bytesOf (stateIn l r) ≡ l
-  unfolding bytesOf
+  same-bytes : lentOf (stateIn l r) ≡ l
+  unfolding lentOf
   same-bytes = rw (← h .record-held .bytes-are, ← h .masks-held .bytes-are, ← h .counters-held .bytes-are, ← h .events-held .bytes-are) refl
 
   module _ (c : Call) (t : T (not (isReset c))) where
     refused-keeps : (n : ℕ) (s : State) → outcome (refused n) s ≡ step (stateIn l r) c → s ≡ stateIn l r
     refused-keeps n s e = ap (λ (o : Outcome). o .state) e ∙ laws.keeps accepting (stateIn l r) c n (sym (ap (λ (o : Outcome). o .answer) e))
 
-    reply-is : (a : Answer) (s : State) → outcome a s ≡ step (stateIn l r) c → (new : Lent) → new ≡ bytesOf s
+    reply-is : (a : Answer) (s : State) → outcome a s ≡ step (stateIn l r) c → (new : Lent) → new ≡ lentOf s
         → reply (numberIn a) (valuesIn (pointers c) a) new ≡ replyTo l (pointers c) a s
-    reply-is (refused n) s e new q = ap (λ (x : Lent). refusal n (pointers c) x) (q ∙ ap bytesOf (refused-keeps n s e) ∙ same-bytes)
+    reply-is (refused n) s e new q = ap (λ (x : Lent). refusal n (pointers c) x) (q ∙ ap lentOf (refused-keeps n s e) ∙ same-bytes)
     reply-is done s e new q = ap (λ (x : Lent). reply 0 [] x) q
     reply-is (value v) s e new q = ap (λ (x : Lent). reply 0 (v ∷ []) x) q
     reply-is (allowed b) s e new q = ap (λ (x : Lent). reply 0 (cond b 1 0 ∷ []) x) q
 
     -- the answer as numbers, and the bytes of the state that is left
-    pub answered : (a : Answer) (s : State) → outcome a s ≡ step (stateIn l r) c → (new : Lent) → new ≡ bytesOf s → (n : ℕ) (vs : List ℕ) → n ≡ numberIn a → vs ≡ valuesIn (pointers c) a
+    pub answered : (a : Answer) (s : State) → outcome a s ≡ step (stateIn l r) c → (new : Lent) → new ≡ lentOf s → (n : ℕ) (vs : List ℕ) → n ≡ numberIn a → vs ≡ valuesIn (pointers c) a
         → reply n vs new ≡ stepBytes l c
     answered a s e new q n vs k v = taken l r (h .state-is) (h .none) c t (outcome a s) e (reply n vs new) (rw (k, v) (reply-is a s e new q))
 
   -- a read leaves the bytes
-  pub read-bytes : l ≡ bytesOf (stateIn l r)
+  pub read-bytes : l ≡ lentOf (stateIn l r)
   read-bytes = sym same-bytes
 
   -- a cache event stores a counter
   pub counter-bytes : (mcid counter : ℕ) (N : List ℕ) → N ≡ withWord 8 (l .counters) mcid counter
-      → lent (l .«record») (l .masks) N (l .events) ≡ bytesOf (state r (tableOf 8 (l .masks)) (set (tableOf 8 (l .counters)) mcid counter) (tableOf 2 (l .events)))
-  unfolding bytesOf
+      → lent (l .«record») (l .masks) N (l .events) ≡ lentOf (state r (tableOf 8 (l .masks)) (set (tableOf 8 (l .counters)) mcid counter) (tableOf 2 (l .events)))
+  unfolding lentOf
   counter-bytes mcid counter N q =
       rw (q, put-held 8 (lit< tt) mcid counter (l .counters) (tableOf 8 (l .counters)) (h .counters-held), ← h .record-held .bytes-are, ← h .masks-held .bytes-are, ← h .events-held .bytes-are) refl
 
   -- a write stores the record and the words that its value names
   pub write-bytes : (su : Setup) (x : WriteWords) (v p i : ℕ) (R M N E : List ℕ) → p ≡ pairOf su v → i ≡ mcidOf v → R ≡ bytesOfAll 8 (wordsIn (x .«record»)) → M ≡ withWord 8 (l .masks) p (x .mask)
       → N ≡ withWord 8 (l .counters) i (x .counter) → E ≡ withWord 2 (l .events) i (x .setting)
-      → lent R M N E ≡ bytesOf (wrote su x (tableOf 8 (l .masks)) (tableOf 8 (l .counters)) (tableOf 2 (l .events)) v)
-  unfolding bytesOf
+      → lent R M N E ≡ lentOf (wrote su x (tableOf 8 (l .masks)) (tableOf 8 (l .counters)) (tableOf 2 (l .events)) v)
+  unfolding lentOf
   write-bytes su x v p i R M N E a b q₁ q₂ q₃ q₄ =
       rw (
         q₁,

@@ -10,7 +10,7 @@ use Rattle.words.proofs.Table.{all-append, zero-bytes}
 use Rattle.words.proofs.Parts.{bytes-drop}
 use Rattle.replies.specs.Replies.{reply, refusal}
 use Rattle.replies.proofs.Laws as laws
-use Rattle.masks.proofs.Words.{reset-words, first-inside}
+use Rattle.capacity_masks.proofs.Words.{reset-words, first-inside}
 use Rattle.capacity_model.specs.Rules.{Setup, pairs, allBlocks, resetMasks}
 use Rattle.capacity_model.specs.Calls.{reset, done}
 use Rattle.capacity_model.specs.Facts.{Ranges}
@@ -18,7 +18,7 @@ use Rattle.capacity_model.specs.Model.{State, step}
 use Rattle.capacity.specs.View.{outcome}
 use Rattle.capacity.proofs.Checks.{setup-passes}
 use Rattle.capacity.proofs.Calls.{reset-performed}
-use Rattle.capacity_bytes.specs.Bytes.{Lent, lent, recordOf, stateOf, bytesOf, pointers, replyTo, setupFor, byteRefusal, stepBytes}
+use Rattle.capacity_bytes.specs.Bytes.{Lent, lent, recordOf, stateOf, lentOf, pointers, replyTo, setupFor, byteRefusal, stepBytes}
 use Rattle.capacity_bytes.proofs.Lengths.{in-range, long, words-sized}
 
 -- ---- the masks
@@ -67,7 +67,7 @@ module _ (l : Lent) (su : Setup) where
 
   pub reset-bytes : byteRefusal su l ≡ 0 → (R M N E : List ℕ) → R ≡ bytesOfAll 8 (recordOf fresh) → M ≡ bytesOfAll 8 (resetMasks su) → N ≡ replicate (length (l .counters)) 0
       → E ≡ replicate (length (l .events)) 0 → reply 0 [] (lent R M N E) ≡ stepBytes l (reset su)
-  unfolding setupFor bytesOf stateOf
+  unfolding setupFor lentOf stateOf
   reset-bytes z R M N E q₁ q₂ q₃ q₄ =
       let g = long su l z in
       let o : outcome done fresh ≡ step (stateOf l) (reset su) = reset-performed (stateOf l) su (setup-passes su (stateOf l) (in-range su l z) (words-sized su l z)) _ _ _ refl refl refl in

@@ -49,8 +49,8 @@ unfoldable pub stateOf : Lent → State
 stateOf l = stateBy (wordsOf 8 9 (l .«record»)) (tableOf 8 (l .masks)) (tableOf 8 (l .counters)) (tableOf 2 (l .events))
 
 -- the bytes of a state
-unfoldable pub bytesOf : State → Lent
-bytesOf s = lent (bytesOfAll 8 (recordOf s)) (bytesOfAll 8 (s .alloc .masks)) (bytesOfAll 8 (s .monitor .counters)) (bytesOfAll 2 (s .monitor .events))
+unfoldable pub lentOf : State → Lent
+lentOf s = lent (bytesOfAll 8 (recordOf s)) (bytesOfAll 8 (s .alloc .masks)) (bytesOfAll 8 (s .monitor .counters)) (bytesOfAll 2 (s .monitor .events))
 
 -- ---- a call
 
@@ -68,9 +68,9 @@ pointers (evict rcid mcid at block) = 0
 -- a refusal gives its number and leaves the bytes; 0 for none, with the bytes of the state left; an allowance is 1 or 0
 abbrev pub replyTo : Lent → ℕ → Answer → State → Reply
 replyTo l p (refused n) s = refusal n p l
-replyTo l p done s = reply 0 [] (bytesOf s)
-replyTo l p (value v) s = reply 0 (v ∷ []) (bytesOf s)
-replyTo l p (allowed b) s = reply 0 (cond b 1 0 ∷ []) (bytesOf s)
+replyTo l p done s = reply 0 [] (lentOf s)
+replyTo l p (value v) s = reply 0 (v ∷ []) (lentOf s)
+replyTo l p (allowed b) s = reply 0 (cond b 1 0 ∷ []) (lentOf s)
 
 -- a reset goes by the set-up that it is given, any other call by the record's
 unfoldable pub setupFor : Lent → Call → Setup

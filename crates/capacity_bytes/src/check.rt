@@ -3,7 +3,7 @@ use crate::lent::record_refusal;
 use crate::record::load_record;
 use capacity::LAST_EVENT;
 use capacity::Record;
-use masks::union_ok;
+use capacity_masks::union_ok;
 use monitor_bytes::capacity_counters_ok;
 use monitor_bytes::events_ok;
 use words::union64;
@@ -11,7 +11,7 @@ ghost use mathlib.Core.Path.{_≡_};
 ghost use Rattle.words.specs.Words.{tableOf};
 ghost use Rattle.capacity_model.specs.Facts.{Ranges, Sized};
 ghost use Rattle.capacity_model.specs.Model.{wellFormed};
-ghost use Rattle.masks.specs.View.{setupOf};
+ghost use Rattle.capacity_masks.specs.View.{setupOf};
 ghost use Rattle.capacity.specs.View.{state};
 ghost use Rattle.capacity_bytes.specs.View.{before, Checked};
 

@@ -1,9 +1,9 @@
 // The lengths of the lent bytes.
 use crate::record::load_record;
-use masks::Setup;
+use capacity_masks::Setup;
 use tables::pick;
 ghost use mathlib.Core.Path.{_≡_};
-ghost use Rattle.masks.specs.View.{setupOf};
+ghost use Rattle.capacity_masks.specs.View.{setupOf};
 ghost use Rattle.capacity_bytes.specs.Bytes.{stateOf, byteRefusal};
 ghost use Rattle.capacity_bytes.specs.View.{before};
 

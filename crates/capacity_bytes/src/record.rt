@@ -1,6 +1,6 @@
 // The capacity controller's record as bytes.
 use capacity::Record;
-use masks::Setup;
+use capacity_masks::Setup;
 use words::decode64;
 use words::encode64;
 ghost use mathlib.Core.Path.{_≡_};

@@ -5,7 +5,7 @@ use crate::answer::reading_numbers;
 use crate::check::Check;
 use crate::check::checked;
 use crate::record::store_record;
-use masks::named_pair;
+use capacity_masks::named_pair;
 use monitor::named_mcid;
 use words::put16;
 use words::put64;

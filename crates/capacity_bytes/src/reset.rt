@@ -2,8 +2,8 @@
 use crate::lent::byte_refusal;
 use crate::record::store_record;
 use capacity::Record;
-use masks::Setup;
-use masks::all_blocks;
+use capacity_masks::Setup;
+use capacity_masks::all_blocks;
 use words::clear8;
 use words::encode64;
 ghost use mathlib.Core.Path.{_≡_};
@@ -15,7 +15,7 @@ ghost use Rattle.replies.specs.Replies.{reply};
 ghost use Rattle.capacity_model.specs.Calls.{reset};
 ghost use Rattle.capacity_model.specs.Facts.{Ranges};
 ghost use Rattle.capacity_model.specs.Rules.{pairs, resetMasks};
-ghost use Rattle.masks.specs.View.{setupOf};
+ghost use Rattle.capacity_masks.specs.View.{setupOf};
 ghost use Rattle.capacity_bytes.specs.Bytes.{stepBytes};
 ghost use Rattle.capacity_bytes.specs.View.{before, after};
 

@@ -1,5 +1,5 @@
 // The bandwidth controller's functions for C, on bytes.
-use setup::Setup;
+use bandwidth_setup::Setup;
 ghost use mathlib.Core.Path.{_≡_};
 ghost use mathlib.Core.List.{[], _∷_};
 ghost use Rattle.bandwidth_model.specs.Calls.{reset, read, write, request, endWindow};

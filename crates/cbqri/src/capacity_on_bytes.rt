@@ -1,5 +1,5 @@
 // The capacity controller's functions for C, on bytes.
-use masks::Setup;
+use capacity_masks::Setup;
 ghost use mathlib.Core.Path.{_≡_};
 ghost use mathlib.Core.List.{[], _∷_};
 ghost use Rattle.capacity_model.specs.Calls.{reset, read, write, fill, evict};

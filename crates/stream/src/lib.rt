@@ -1,11 +1,11 @@
 // Lines answered as they come in, however the input is cut into chunks.
 use bandwidth::Record;
-use setup::Setup;
+use bandwidth_setup::Setup;
 ghost use mathlib.Core.Path.{_≡_};
 ghost use mathlib.Core.List.{_++_};
 ghost use Prim.Native.Nat.{_+_, _*_, _≤_};
 ghost use lib.ListN.{length, take};
-ghost use Rattle.session.specs.View.{controllerOf, Room};
+ghost use Rattle.session.specs.View.{controllerOf, Tables};
 ghost use Rattle.stream.specs.Stream.{Held, Ends, Kept, joinOf, fullLine, Started, Answered, Fed, Finished};
 ghost use Rattle.stream.specs.Claim.{Claim};
 
@@ -40,7 +40,7 @@ fn answer(
     out: &mut [u8],
     at: usize,
 ) -> Line
-    requires { ⌜ Room (now active) (now configured) (now used) (now counters) (now events) × (at + 24 ≤ length (now out)) ⌝ }
+    requires { ⌜ Tables (now active) (now configured) (now used) (now counters) (now events) × (at + 24 ≤ length (now out)) ⌝ }
     ensures { λ r. ⌜ Answered (controllerOf «record» (now (active .entry)) (now (configured .entry)) (now (used .entry)) (now (counters .entry)) (now (events .entry))) (now (line .entry)) (now (out .entry)) at
         (controllerOf (r .«record») (now (active .exit)) (now (configured .exit)) (now (used .exit)) (now (counters .exit)) (now (events .exit))) (now (out .exit)) (r .end) ⌝ }
 {
@@ -146,7 +146,7 @@ pub fn feed(
     chunk: &[u8],
     out: &mut [u8],
 ) -> Progress
-    requires { ⌜ Room (now active) (now configured) (now used) (now counters) (now events) × (24 * length (now chunk) ≤ length (now out)) ⌝ }
+    requires { ⌜ Tables (now active) (now configured) (now used) (now counters) (now events) × (24 * length (now chunk) ≤ length (now out)) ⌝ }
     ensures { λ r. ⌜ Fed (controllerOf (state .«record») (now (active .entry)) (now (configured .entry)) (now (used .entry)) (now (counters .entry)) (now (events .entry))) (take (state .len) (state .line)) (now (chunk .entry))
         (controllerOf (r .state .«record») (now (active .exit)) (now (configured .exit)) (now (used .exit)) (now (counters .exit)) (now (events .exit))) (take (r .state .len) (r .state .line)) (now (out .exit)) (r .used) ⌝ }
 {
@@ -197,7 +197,7 @@ pub fn finish(
     events: &mut [u16],
     out: &mut [u8],
 ) -> usize
-    requires { ⌜ Room (now active) (now configured) (now used) (now counters) (now events) × (24 ≤ length (now out)) ⌝ }
+    requires { ⌜ Tables (now active) (now configured) (now used) (now counters) (now events) × (24 ≤ length (now out)) ⌝ }
     ensures { λ r. ⌜ Finished (controllerOf (state .«record») (now (active .entry)) (now (configured .entry)) (now (used .entry)) (now (counters .entry)) (now (events .entry))) (take (state .len) (state .line)) (now (out .exit)) r ⌝ }
 {
     let n = state.len;

@@ -1,8 +1,8 @@
 -- `bandwidth::Record::serve` meets its contract.
 use native.Mathlib.Omega.{arith}
 use borrow.Author.Needs.{needs}
-use Rattle.setup.specs.View.{setupOf}
-use Rattle.settings.proofs.Rows.{row-end}
+use Rattle.bandwidth_setup.specs.View.{setupOf}
+use Rattle.bandwidth_settings.proofs.Rows.{row-end}
 use Rattle.bandwidth.proofs.Calls.{request-fits, serve-row}
 use Rattle.bandwidth.proofs.Record.serve.Statement.{statement}
 use Rattle.bandwidth.proofs.Record.serve.Tie as tie

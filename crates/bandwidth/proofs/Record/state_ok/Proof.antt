@@ -11,13 +11,13 @@ use Rattle.bandwidth.proofs.Record.state_ok.Tie as tie
 mul-left : tie.Need-mul-left
 mul-left c =
     let p = c .before .before .before .pre in
-    omega (arith, mul-le-mul {n₁ = c .before .less .result} {n₂ = 65535} (omega (arith, c .before .less .ensures, p .nbwblks-high)) (p .q-high))
+    omega (arith, mul-le-mul {n₁ = c .before .saturating-sub .result} {n₂ = 65535} (omega (arith, c .before .saturating-sub .ensures, p .nbwblks-high)) (p .q-high))
 
 returns : tie.Need-returns
 unfolding registersOk
 returns c active configured used counters events t =
     let a = c .before .before .before .before .before .before .before .args in
-    let left = c .before .before .before .before .before .less in
+    let left = c .before .before .before .before .before .saturating-sub in
     let regs = c .before .before .before .registers-ok in
     let ctl = c .before .before .control-ok in
     well-formed-is (state (a .self) active configured used counters events)

@@ -4,7 +4,7 @@ use Prim.Native.Nat.{ℕ}
 use native.Mathlib.Omega.{arith}
 use borrow.Author.Needs.{needs}
 use lib.ListN.{replicate}
-use Rattle.setup.specs.View.{setupOf}
+use Rattle.bandwidth_setup.specs.View.{setupOf}
 use Rattle.bandwidth.specs.View.{resetRow}
 use Rattle.bandwidth.proofs.ResetTable.{first-inside}
 use Rattle.bandwidth_bytes.proofs.Resets.{reset-stored}

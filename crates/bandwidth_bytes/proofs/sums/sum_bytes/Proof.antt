@@ -4,8 +4,8 @@ use Prim.Native.Nat.{_≤_, _-_}
 use native.Mathlib.Omega.{arith}
 use borrow.Author.Needs.{needs}
 use Rattle.words.specs.Words.{tableOf}
-use Rattle.wellformed.specs.Tables.{Summed}
-use Rattle.wellformed.proofs.Sums.{span-rows, sums-more, sums-fit}
+use Rattle.bandwidth_wellformed.specs.Tables.{Summed}
+use Rattle.bandwidth_wellformed.proofs.Sums.{span-rows, sums-more, sums-fit}
 use Rattle.bandwidth_bytes.proofs.Parts.{span-in}
 use Rattle.bandwidth_bytes.proofs.sums.sum_bytes.Statement.{statement}
 use Rattle.bandwidth_bytes.proofs.sums.sum_bytes.Tie as tie

@@ -5,7 +5,7 @@ use lib.ListN.{replicate}
 use lib.Seq.{length-take-le}
 use borrow.Author.Needs.{needs}
 use Rattle.tables.proofs.Tests.{of-true}
-use Rattle.wellformed.proofs.Sums.{zeros-none}
+use Rattle.bandwidth_wellformed.proofs.Sums.{zeros-none}
 use Rattle.bandwidth_bytes.proofs.Parts.{part-words}
 use Rattle.bandwidth_bytes.proofs.sums.sum_part.Statement.{statement}
 use Rattle.bandwidth_bytes.proofs.sums.sum_part.Tie as tie

@@ -7,8 +7,8 @@ use lib.Dec.{eqb→eq}
 use lib.ListN.{getD}
 use Rattle.tables.specs.Parts.{part}
 use Rattle.words.specs.Words.{tableOf}
-use Rattle.wellformed.specs.Bits.{AtMost}
-use Rattle.wellformed.proofs.Passes.{at-most-none, at-most-next}
+use Rattle.bandwidth_wellformed.specs.Bits.{AtMost}
+use Rattle.bandwidth_wellformed.proofs.Passes.{at-most-none, at-most-next}
 use Rattle.bandwidth_bytes.proofs.Parts.{word-in}
 use Rattle.bandwidth_bytes.proofs.sums.zero_words.Statement.{statement}
 use Rattle.bandwidth_bytes.proofs.sums.zero_words.Tie as tie

@@ -3,8 +3,8 @@ use mathlib.Core.Path.{ap, _∙_}
 use mathlib.Core.List.{List}
 use Prim.Native.Nat.{ℕ}
 use borrow.Author.Needs.{needs}
-use Rattle.setup.specs.View.{setupOf}
-use Rattle.settings.specs.Rows.{writeRow}
+use Rattle.bandwidth_setup.specs.View.{setupOf}
+use Rattle.bandwidth_settings.specs.Rows.{writeRow}
 use Rattle.bandwidth_bytes.proofs.Parts.{loaded, put-back}
 use Rattle.bandwidth_bytes.proofs.write.write_loaded.Statement.{statement}
 use Rattle.bandwidth_bytes.proofs.write.write_loaded.Tie as tie

@@ -5,8 +5,8 @@ use native.Mathlib.Omega.{arith}
 use lib.ListN.{length, take, replicate, length-take}
 use borrow.Author.Needs.{needs}
 use Rattle.capacity_model.specs.Rules.{pairs, allBlocks}
-use Rattle.masks.specs.View.{setupOf}
-use Rattle.masks.proofs.Words.{first-inside, reset-words}
+use Rattle.capacity_masks.specs.View.{setupOf}
+use Rattle.capacity_masks.proofs.Words.{first-inside, reset-words}
 use Rattle.capacity.proofs.reset.reset_masks.Statement.{statement}
 use Rattle.capacity.proofs.reset.reset_masks.Tie as tie
 

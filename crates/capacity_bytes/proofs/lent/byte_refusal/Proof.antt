@@ -5,7 +5,7 @@ use borrow.Author.Needs.{needs}
 use Rattle.tables.proofs.Tests.{of-true}
 use Rattle.capacity_model.specs.Facts.{Ranges}
 use Rattle.capacity_model.proofs.Setup.{ranges}
-use Rattle.masks.specs.View.{setupOf}
+use Rattle.capacity_masks.specs.View.{setupOf}
 use Rattle.capacity_bytes.specs.Bytes.{bytesFit}
 use Rattle.capacity_bytes.proofs.Lengths.{wrong-record, wrong-setup, wrong-lengths}
 use Rattle.capacity_bytes.proofs.lent.byte_refusal.Statement.{statement}

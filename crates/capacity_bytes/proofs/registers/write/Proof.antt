@@ -5,7 +5,7 @@ use Rattle.words.proofs.Held.{length-held}
 use Rattle.capacity_model.specs.Calls.{write}
 use Rattle.capacity.proofs.Checks.{passes}
 use Rattle.capacity.proofs.Calls.{words-in}
-use Rattle.masks.specs.View.{setupOf}
+use Rattle.capacity_masks.specs.View.{setupOf}
 use Rattle.capacity_bytes.proofs.Calls.{answered, write-bytes, ack-none, passed-of, failed-of}
 use Rattle.capacity_bytes.proofs.registers.write.Statement.{statement}
 use Rattle.capacity_bytes.proofs.registers.write.Tie as tie

@@ -4,7 +4,7 @@ use mathlib.Core.Path.{ap, _∙_}
 use Prim.Native.Nat.{ℕ}
 use lib.ListN.{take, replicate}
 use Rattle.words.specs.Words.{bytesOfAll}
-use Rattle.masks.specs.View.{setupOf}
+use Rattle.capacity_masks.specs.View.{setupOf}
 use Rattle.capacity_bytes.proofs.Resets.{row-long, row-inside, front-long, row-fits, masks-reset}
 use Rattle.capacity_bytes.proofs.reset.reset_masks.Statement.{statement}
 use Rattle.capacity_bytes.proofs.reset.reset_masks.Tie as tie

@@ -1,0 +1,114 @@
+-- One turn of each pass, and the tables that a pass leaves out.
+use mathlib.Core.Path.{_≡_, sym, _∙_}
+use mathlib.Core.Bool.{cond}
+use mathlib.Core.List.{List}
+use Prim.Native.Nat.{ℕ, _+_, _*_, _/_, _%_, _^_, _≤_, _<_}
+use native.Mathlib.Nat.{zero-mul, one-mul, suc-mul, mul-le-mul, mul-le-mul-left, mod-eq-of-lt, le-trans}
+use native.Mathlib.Numerals.{add-one}
+use native.Mathlib.Omega.{arith}
+use borrow.Author.Count.{below-more}
+use lib.Bits.{bitOr, bitXor, xor-add-and, and-le-l, and-le-r}
+use lib.Dec.{leb, leb→le, le→leb}
+use lib.ListN.{length, getD}
+use lib.Pow.{pow-mono}
+use lib.Seq.{ext-getD}
+use Rattle.tables.specs.Below.{sumBelow, unionBelow}
+use Rattle.tables.proofs.Tests.{cases, cond-yes}
+use Rattle.tables.proofs.Laws.{sum-le, sum-zero}
+use Rattle.tables.proofs.Parts.{row-inside}
+use Rattle.tables.proofs.Union.{zero-union}
+use Rattle.bandwidth_wellformed.specs.Bits.{formAt, blocksAt, markAt, sharingAt, overAt, AtMost}
+use Rattle.bandwidth_wellformed.specs.Tables.{TableSummed}
+use Rattle.bandwidth_wellformed.proofs.Bits.{or-ge-l, or-ge-r}
+use Rattle.bandwidth_wellformed.proofs.Forms.{unset, form-of}
+use Rattle.bandwidth_wellformed.proofs.Marks.{held-row}
+
+-- ---- sizes
+
+-- shifts that lose nothing
+pub shift-some : (a : ℕ) → a < 8 → 16777216 * 2 ^ a % 4294967296 ≡ 16777216 * 2 ^ a
+shift-some a h = let p : 2 ^ a ≤ 128 = pow-mono {i = a} {j = 7} (omega arith) in mod-eq-of-lt (omega arith)
+
+pub shift-shared : (w : ℕ) → w < 4294967296 → 1 * 2 ^ (w / 268435456) % 4294967296 ≡ 2 ^ (w / 2 ^ 28)
+shift-shared w h =
+    let p : 2 ^ (w / 268435456) ≤ 32768 = pow-mono {i = w / 268435456} {j = 15} (omega arith) in
+    mod-eq-of-lt (omega arith) ∙ one-mul (2 ^ (w / 268435456))
+
+-- the bytes of all blocks of a word
+pub bytes-le : {b q : ℕ} → b < 65536 → q ≤ 65536 → b * q ≤ 4294901760
+bytes-le {b} {q} h k = mul-le-mul {n₁ = b} {m₁ = q} {n₂ = 65535} {m₂ = 65536} (omega arith) k
+
+-- the row after r
+pub row-next : (r na : ℕ) → r * na + na ≡ (r + 1) * na
+row-next r na = rw (add-one, suc-mul)
+
+-- the blocks of n words
+pub blocks-low : (t : List ℕ) (n : ℕ) → sumBelow n (blocksAt t) ≤ 65535 * n
+unfolding blocksAt
+blocks-low t n = sum-le n 65535 (blocksAt t) (λ k l. omega arith)
+
+-- ---- a number that no word is above
+
+module _ (f : ℕ → ℕ) where
+  pub at-most-none : (m : ℕ) → AtMost f 0 m
+  at-most-none m = record { each = λ k b. absurd (omega arith) }
+
+  pub at-most-next : (i m : ℕ) → AtMost f i m → AtMost f (i + 1) (bitOr m (f i))
+  at-most-next i m h = record { each = below-more (λ j. f j ≤ bitOr m (f i)) i (λ j b. le-trans (h .each j b) (or-ge-l m (f i))) (or-ge-r m (f i)) }
+
+-- no bits in which two numbers differ
+xor-none : (a b : ℕ) → bitXor a b ≡ 0 → a ≡ b
+xor-none a b h = omega (arith, xor-add-and a b, and-le-l a b, and-le-r a b)
+
+-- two tables without a bit in which they differ
+pub same-words : (t u : List ℕ) → length t ≡ length u → AtMost (λ k. bitXor (getD t k 0) (getD u k 0)) (length t) 0 → t ≡ u
+same-words t u e h = ext-getD 0 t u e (λ k b. xor-none (getD t k 0) (getD u k 0) (omega (arith, h .each k b)))
+
+-- ---- tables in which nothing is wrong
+
+-- no word names an AT
+pub names-none : (na n : ℕ) (t : List ℕ) (any : ℕ) → any < 268435456 → AtMost (λ k. getD t k 0) (n * na) any → unionBelow n (sharingAt na t) ≡ 0
+unfolding sharingAt markAt
+names-none na n t any s h =
+    zero-union n (sharingAt na t)
+    (λ k b. let low : (a : ℕ) → a < na → getD t (k * na + a) 0 < 268435456 = λ a l. omega (arith, h .each (k * na + a) (omega (arith, row-inside n na k b))) in
+    held-row na (λ a. getD t (k * na + a) 0) (λ a l. omega (arith, low a l)) (λ a l p. absurd (omega (arith, low a l))))
+
+-- every word is 0
+pub zeros-summed : (na n : ℕ) (t : List ℕ) → AtMost (λ k. getD t k 0) (n * na) 0 → TableSummed na t n (record { form = 0; sharing = 0; blocks = 0 })
+unfolding formAt blocksAt
+zeros-summed na n t h =
+    let none : (k : ℕ) → k < n * na → getD t k 0 ≡ 0 = λ k b. omega (arith, h .each k b) in
+    record {
+      form = sym (zero-union (n * na) (formAt t) (λ k b. form-of (getD t k 0) (omega (arith, none k b)) (unset (none k b))));
+      sharing = sym (names-none na n t 0 (omega arith) h);
+      blocks = sym (sum-zero (n * na) (blocksAt t) (λ k b. omega (arith, none k b)));
+    }
+
+-- no rows
+pub none-summed : (na : ℕ) (t : List ℕ) → TableSummed na t 0 (record { form = 0; sharing = 0; blocks = 0 })
+none-summed na t = zeros-summed na 0 t (record { each = λ k b. absurd (omega (arith, zero-mul na)) })
+
+-- ---- not too much used
+
+module _ (q : ℕ) (active used : List ℕ) (k : ℕ) where
+  within : getD used k 0 ≤ blocksAt active k * q → overAt q active used k ≡ 0
+  unfolding overAt
+  within h = cond-yes (leb (getD used k 0) (blocksAt active k * q)) 0 4294967295 (le→leb (getD used k 0) (blocksAt active k * q) h)
+
+  not-over : overAt q active used k ≡ 0 → getD used k 0 ≤ blocksAt active k * q
+  unfolding overAt
+  not-over =
+      cases (λ b. _≡_ {A = ℕ} (cond b 0 4294967295) 0 → getD used k 0 ≤ blocksAt active k * q) (leb (getD used k 0) (blocksAt active k * q))
+      (λ t e. leb→le (getD used k 0) (blocksAt active k * q) t) (λ t e. absurd (omega arith))
+
+module _ (q : ℕ) (active used : List ℕ) (n : ℕ) {any : ℕ} (z : any ≡ 0) where
+  -- nothing is used
+  pub used-none : AtMost (λ k. getD used k 0) n any → unionBelow n (overAt q active used) ≡ 0
+  used-none h = zero-union n (overAt q active used) (λ k b. within q active used k (omega (arith, h .each k b)))
+
+  -- no more than a smaller q allows
+  pub rough-none : (p : ℕ) → p ≤ q → AtMost (overAt p active used) n any → unionBelow n (overAt q active used) ≡ 0
+  rough-none p l h =
+      zero-union n (overAt q active used)
+      (λ k b. within q active used k (le-trans (not-over p active used k (omega (arith, h .each k b))) (mul-le-mul-left (blocksAt active k) l)))

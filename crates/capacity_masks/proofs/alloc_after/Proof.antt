@@ -1,0 +1,18 @@
+-- `capacity_masks::alloc_after` meets its contract.
+use borrow.Author.Needs.{needs}
+use Rattle.capacity_masks.specs.View.{setupOf}
+use Rattle.capacity_masks.proofs.Words.{alloc-words}
+use Rattle.capacity_masks.proofs.alloc_after.Statement.{statement}
+use Rattle.capacity_masks.proofs.alloc_after.Tie as tie
+
+returns : tie.Need-returns
+returns c =
+    λ masks e.
+    let f = c .before .before .before .before .before .before in
+    alloc-words (setupOf (f .before .args .setup)) _ _ _ _ _ _ masks (f .held-fields .ensures) (c .before .before .before .before .before .alloc-status .ensures) (c .before .before .before .before .alloc-word .ensures)
+    (c .before .before .pick .ensures) (c .pick2 .ensures) e
+
+pub alloc-after-spec : {M : Type 1} → statement M
+alloc-after-spec =
+    tie.close
+    (tie.spec (λ c κs. search needs) (λ c κs. search needs) (λ c κs. search needs) (λ c κs. search needs) (λ c κs. search needs) returns)

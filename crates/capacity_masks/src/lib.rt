@@ -1,0 +1,94 @@
+// The set-up of a capacity controller, its block masks, and the operations of alloc_ctl on them.
+mod setup;
+
+use access::place;
+use allocation::alloc_status;
+use allocation::alloc_word;
+use allocation::held_fields;
+use fields::ones;
+pub use setup::Setup;
+use tables::pick;
+use tables::union64;
+ghost use mathlib.Core.Path.{_≡_};
+ghost use mathlib.Core.List.{List};
+ghost use Prim.Native.Nat.{ℕ, _<_};
+ghost use lib.ListN.{length, getD, set};
+ghost use lib.Dec.{eqb};
+ghost use Rattle.tables.specs.Below.{unionBelow, allBelow};
+ghost use Rattle.access.specs.Pairs.{pair};
+ghost use Rattle.allocation.specs.Allocation.{rcidOf, atOf};
+ghost use Rattle.capacity_model.specs.Rules.{maskOf, allBlocks, hasBlock};
+ghost use Rattle.capacity_model.specs.Facts.{Ranges};
+ghost use Rattle.capacity_model.specs.Model.{writeAlloc};
+ghost use Rattle.capacity_masks.specs.View.{setupOf, allocation};
+
+// Every block.
+pub fn all_blocks(setup: Setup) -> u64
+    requires { ⌜ Ranges (setupOf setup) ⌝ }
+    ensures { λ r. ⌜ r ≡ allBlocks (setupOf setup) ⌝ }
+{
+    ones(setup.ncblks as u32)
+}
+
+// A value without bits NCBLKS and above.
+pub fn mask_of(setup: Setup, v: u64) -> u64
+    requires { ⌜ Ranges (setupOf setup) ⌝ }
+    ensures { λ r. ⌜ r ≡ maskOf (setupOf setup) v ⌝ }
+{
+    v & all_blocks(setup)
+}
+
+// Whether no mask has a bit NCBLKS or above, by the union of the masks.
+pub fn union_ok(setup: Setup, bits: u64) -> bool
+    requires { ⌜ Ranges (setupOf setup) ⌝ }
+    ensures { λ r. ⌜ ((n : ℕ) (f : ℕ → ℕ) → bits ≡ unionBelow n f → r ≡ allBelow n (λ i. eqb (f i) (maskOf (setupOf setup) (f i)))) ⌝ }
+{
+    bits <= all_blocks(setup)
+}
+
+// Whether no mask has a bit NCBLKS or above.
+pub fn masks_ok(setup: Setup, masks: &[u64]) -> bool
+    requires { ⌜ Ranges (setupOf setup) ⌝ }
+    ensures { λ r. ⌜ r ≡ allBelow (length (now (masks .entry))) (λ i. eqb (getD (now (masks .entry)) i 0) (maskOf (setupOf setup) (getD (now (masks .entry)) i 0))) ⌝ }
+{
+    union_ok(setup, union64(masks))
+}
+
+// Whether a mask has a block.
+pub fn has_block(mask: u64, block: u64) -> bool
+    requires { ⌜ block < 64 ⌝ }
+    ensures { λ r. ⌜ r ≡ hasBlock mask block ⌝ }
+{
+    (mask >> block) % 2 == 1
+}
+
+// The place of the pair that a value written to alloc_ctl names; it may lie outside the table.
+pub fn named_pair(setup: Setup, v: u64) -> usize
+    requires { ⌜ Ranges (setupOf setup) ⌝ }
+    ensures { λ r. ⌜ r ≡ pair (setup .na) (rcidOf v) (atOf (setup .na) v) ⌝ }
+{
+    let f = held_fields(setup.na, v);
+    place(setup.na, f.rcid, f.at)
+}
+
+// alloc_ctl, block_mask, and the mask of one pair.
+pub struct AllocWords {
+    pub ctl: u64,
+    pub operand: u64,
+    pub mask: u64,
+}
+
+// The write of v to alloc_ctl where block_mask is `operand`: stores the fields and performs the operation, on the mask of the pair that v names.
+pub fn alloc_after(setup: Setup, operand: u64, mask: u64, v: u64) -> AllocWords
+    requires { ⌜ Ranges (setupOf setup) ⌝ }
+    ensures { λ r. ⌜ ((masks : List ℕ) → mask ≡ getD masks (pair (setup .na) (rcidOf v) (atOf (setup .na) v)) 0
+        → allocation (r .ctl) (r .operand) (set masks (pair (setup .na) (rcidOf v) (atOf (setup .na) v)) (r .mask)) ≡ writeAlloc (setupOf setup) operand masks v) ⌝ }
+{
+    let f = held_fields(setup.na, v);
+    let status = alloc_status(setup.nr, setup.na, operand == 0, v);
+    AllocWords {
+        ctl: alloc_word(f, status),
+        operand: pick((f.op == 2) & (status == 1), mask, operand),
+        mask: pick((f.op == 1) & (status == 1), operand, mask),
+    }
+}

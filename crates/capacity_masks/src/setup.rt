@@ -1,0 +1,53 @@
+// The set-up of a capacity controller.
+use access::known_at;
+use access::place;
+ghost use mathlib.Core.Path.{_≡_};
+ghost use Prim.Native.Nat.{_<_};
+ghost use Rattle.tables.specs.Below.{Small};
+ghost use Rattle.access.specs.Pairs.{pair, knownAt};
+ghost use Rattle.capacity_model.specs.Rules.{setupOk, pairs};
+ghost use Rattle.capacity_model.specs.Facts.{Ranges};
+ghost use Rattle.capacity_masks.specs.View.{setupOf};
+
+// NCBLKS, NR, NA, NM and W.
+pub struct Setup {
+    pub ncblks: u64,
+    pub nr: u64,
+    pub na: u64,
+    pub nm: u64,
+    pub w: u64,
+}
+
+impl Setup {
+    // Whether each number lies in its range.
+    pub fn in_range(self) -> bool
+        ensures { λ r. ⌜ r ≡ setupOk (setupOf self) ⌝ }
+    {
+        (1 <= self.ncblks)
+            & (self.ncblks <= 64)
+            & ((1 <= self.nr) & (self.nr <= 256))
+            & ((1 <= self.na) & (self.na <= 8))
+            & ((1 <= self.nm) & (self.nm <= 256))
+            & ((24 <= self.w) & (self.w <= 62))
+    }
+
+    // The masks of the table.
+    pub fn pairs(self) -> u64
+        requires { ⌜ Ranges (setupOf self) ⌝ }
+        ensures { λ r. ⌜ Small (pairs (setupOf self)) 2048 r ⌝ }
+    {
+        self.nr * self.na
+    }
+
+    // The place of a pair in the table; 0 where there is no such RCID.
+    pub fn pair_at(self, rcid: u64, at: u64) -> usize
+        requires { ⌜ Ranges (setupOf self) ⌝ }
+        ensures { λ r. ⌜ (rcid < self .nr → r ≡ pair (self .na) rcid (knownAt (self .na) at)) ⌝ }
+    {
+        if rcid < self.nr {
+            place(self.na, rcid, known_at(self.na, at))
+        } else {
+            0
+        }
+    }
+}
