@@ -5,7 +5,6 @@ use bandwidth::Record;
 use bandwidth::reset_row;
 use bandwidth_setup::Setup;
 use words::clear8;
-use words::copy8;
 use words::store_part32;
 ghost use mathlib.Core.Path.{_≡_};
 ghost use mathlib.Core.List.{[]};
@@ -51,8 +50,8 @@ fn reset_tables(
     requires { ⌜ Ranges (setupOf setup) × Tables (setupOf setup) (now active) (now configured) (now used) (now counters) (now events) ⌝ }
     ensures { λ r. ⌜ Fresh (setupOf setup) (now (active .exit)) (now (configured .exit)) (now (used .exit)) (now (counters .exit)) (now (events .exit)) ⌝ }
 {
+    reset_table(setup, active);
     reset_table(setup, configured);
-    copy8(active, configured);
     clear8(used);
     clear8(counters);
     clear8(events);

@@ -8,7 +8,6 @@ pub use entry::word32;
 pub use entry::word64;
 pub use part::load_part16;
 pub use part::load_part32;
-pub use part::load_part64;
 pub use part::store_part32;
 ghost use mathlib.Core.Path.{_≡_};
 ghost use Prim.Native.Nat.{_+_, _*_, _<_, _≤_, _^_};
@@ -111,15 +110,6 @@ pub fn decode64(bytes: &[u8], words: &mut [u64])
 }
 
 // The bytes of `words`, which fill `bytes`.
-pub fn encode16(words: &[u16], bytes: &mut [u8])
-    requires { ⌜ length (now words) * 2 ≡ length (now bytes) ⌝ }
-    ensures { λ _. ⌜ now (bytes .exit) ≡ bytesOfAll 2 (now (words .entry)) ⌝ }
-{
-    for i in 0..words.len() {
-        store16(bytes, i * 2, words[i] as u64);
-    }
-}
-
 pub fn encode32(words: &[u32], bytes: &mut [u8])
     requires { ⌜ length (now words) * 4 ≡ length (now bytes) ⌝ }
     ensures { λ _. ⌜ now (bytes .exit) ≡ bytesOfAll 4 (now (words .entry)) ⌝ }
@@ -144,14 +134,6 @@ pub fn put16(b: &mut [u8], i: usize, w: u64)
 {
     if i < b.len() / 2 {
         store16(b, i * 2, w);
-    }
-}
-
-pub fn put32(b: &mut [u8], i: usize, w: u64)
-    ensures { λ _. ⌜ now (b .exit) ≡ withWord 4 (now (b .entry)) i w ⌝ }
-{
-    if i < b.len() / 4 {
-        store32(b, i * 4, w);
     }
 }
 

@@ -1,7 +1,6 @@
 // Parts of a table of bytes, by its words.
 use crate::decode16;
 use crate::decode32;
-use crate::decode64;
 use crate::encode32;
 ghost use mathlib.Core.Path.{_≡_};
 ghost use mathlib.Core.List.{List};
@@ -25,14 +24,6 @@ pub fn load_part32(bytes: &[u8], from: usize, words: &mut [u32])
 {
     let at = from * 4;
     decode32(&bytes[at..], words);
-}
-
-pub fn load_part64(bytes: &[u8], from: usize, words: &mut [u64])
-    requires { ⌜ (from + length (now words)) * 8 ≤ length (now bytes) ⌝ }
-    ensures { λ _. ⌜ now (words .exit) ≡ part from (length (now (words .entry))) (tableOf 8 (now (bytes .entry))) ⌝ }
-{
-    let at = from * 8;
-    decode64(&bytes[at..], words);
 }
 
 // Stores words as those from `from` on.

@@ -15,12 +15,11 @@ zeros k n old e l = e ∙ ap (λ (m : ℕ). replicate m 0) l ∙ sym (zero-bytes
 
 returns : tie.Need-returns
 returns c =
-    let s = c .before .before .before .before .before .before .before .before .before .before .before .before .before .before .before .before .before .before .before .before .before .before .before .before .before .before in
+    let s = c .before .before .before .before .before .before .before .before .before .before .before .before .before .before .before .before .before .before .before .before .before .before .before .before .before in
     let l = s .pre .1 in
-    let configured = c .before .before .before .before .before .before .before .before .before .before .before .before .before .before .before .before .before .before .before .reset-table .ensures in
     record {
-      active-is = c .before .before .before .before .before .before .before .before .before .before .before .before .before .before .copy8 .ensures ∙ configured;
-      configured-is = configured;
+      active-is = c .before .before .before .before .before .before .before .before .before .before .before .before .before .before .before .before .before .before .reset-table .ensures;
+      configured-is = c .before .before .before .before .before .before .before .before .before .before .before .before .before .before .reset-table2 .ensures;
       used-is = zeros 4 _ (s .args .used .now) (c .before .before .before .before .before .before .before .before .before .before .clear8 .ensures) (l .used-long);
       counters-are = zeros 8 _ (s .args .counters .now) (c .before .before .before .before .before .before .clear82 .ensures) (l .counters-long);
       events-are = zeros 2 _ (s .args .events .now) (c .before .before .clear83 .ensures) (l .events-long);
