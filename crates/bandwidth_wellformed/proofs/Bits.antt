@@ -94,6 +94,13 @@ union-has (suc n) f k i l =
     below-more (λ j. Has k (f j) → Has k (bitOr (unionBelow n f) (f n))) n (λ j b h. has-left k (unionBelow n f) (f n) (union-has n f k j b h))
     (has-right k (unionBelow n f) (f n)) i (omega arith)
 
+-- no number is above the union
+pub union-ge : (n : ℕ) (f : ℕ → ℕ) (i : ℕ) → i < n → f i ≤ unionBelow n f
+unfolding unionBelow
+union-ge zero f i l = absurd (omega arith)
+union-ge (suc n) f i l =
+    below-more (λ j. f j ≤ bitOr (unionBelow n f) (f n)) n (λ j b. le-trans (union-ge n f j b) (or-ge-l (unionBelow n f) (f n))) (or-ge-r (unionBelow n f) (f n)) i (omega arith)
+
 -- a number that has bit k
 pub record Having (n : ℕ) (f : ℕ → ℕ) (k : ℕ) : Type 0 where
   pub at : ℕ

@@ -1,5 +1,5 @@
 -- One turn of each pass, and the tables that a pass leaves out.
-use mathlib.Core.Path.{_≡_, sym, _∙_}
+use mathlib.Core.Path.{_≡_, refl, sym, ap, _∙_}
 use mathlib.Core.Bool.{cond}
 use mathlib.Core.List.{List}
 use Prim.Native.Nat.{ℕ, _+_, _*_, _/_, _%_, _^_, _≤_, _<_}
@@ -8,20 +8,21 @@ use native.Mathlib.Numerals.{add-one}
 use native.Mathlib.Omega.{arith}
 use borrow.Author.Count.{below-more}
 use lib.Bits.{bitOr, bitXor, xor-add-and, and-le-l, and-le-r}
-use lib.Dec.{leb, leb→le, le→leb}
+use lib.Dec.{eqb, eqb→eq, leb, leb→le, le→leb}
 use lib.ListN.{length, getD}
-use lib.Pow.{pow-mono}
+use lib.Pow.{pow-mono, shr-shr}
 use lib.Seq.{ext-getD}
 use Rattle.tables.specs.Below.{sumBelow, unionBelow}
-use Rattle.tables.proofs.Tests.{cases, cond-yes}
+use Rattle.bandwidth_model.specs.Rules.{sharedAtOf, useSharedOf}
+use Rattle.tables.proofs.Tests.{cases, cond-yes, eqb-in, neqb}
 use Rattle.tables.proofs.Laws.{sum-le, sum-zero}
 use Rattle.tables.proofs.Parts.{row-inside}
 use Rattle.tables.proofs.Union.{zero-union}
-use Rattle.bandwidth_wellformed.specs.Bits.{formAt, blocksAt, markAt, sharingAt, overAt, AtMost}
+use Rattle.bandwidth_wellformed.specs.Bits.{formAt, blocksAt, markAt, sharingAt, overAt, firstBits, AtMost}
 use Rattle.bandwidth_wellformed.specs.Tables.{TableSummed}
-use Rattle.bandwidth_wellformed.proofs.Bits.{or-ge-l, or-ge-r}
-use Rattle.bandwidth_wellformed.proofs.Forms.{unset, form-of}
-use Rattle.bandwidth_wellformed.proofs.Marks.{held-row}
+use Rattle.bandwidth_wellformed.proofs.Bits.{or-ge-l, or-ge-r, Has, union-has, union-ge}
+use Rattle.bandwidth_wellformed.proofs.Forms.{unset, form-of, low-blocks}
+use Rattle.bandwidth_wellformed.proofs.Marks.{Led, held-row}
 
 -- ---- sizes
 
@@ -66,13 +67,49 @@ same-words t u e h = ext-getD 0 t u e (λ k b. xor-none (getD t k 0) (getD u k 0
 
 -- ---- tables in which nothing is wrong
 
--- no word names an AT
-pub names-none : (na n : ℕ) (t : List ℕ) (any : ℕ) → any < 268435456 → AtMost (λ k. getD t k 0) (n * na) any → unionBelow n (sharingAt na t) ≡ 0
-unfolding sharingAt markAt
-names-none na n t any s h =
-    zero-union n (sharingAt na t)
-    (λ k b. let low : (a : ℕ) → a < na → getD t (k * na + a) 0 < 268435456 = λ a l. omega (arith, h .each (k * na + a) (omega (arith, row-inside n na k b))) in
-    held-row na (λ a. getD t (k * na + a) 0) (λ a l. omega (arith, low a l)) (λ a l p. absurd (omega (arith, low a l))))
+-- no number up to 8 but 8 has none of the bits 2:0
+eight : {x y z : ℕ} → x / 2 ≡ y → y / 2 ≡ z → 0 < x → x ≤ 8 → x % 2 ≡ 0 → y % 2 ≡ 0 → z % 2 ≡ 0 → x ≡ 8
+eight d e p l a b c = omega arith
+
+-- the words of n rows, with all their bits
+module _ (na n : ℕ) (t : List ℕ) (any : ℕ) (u : any ≡ unionBelow (n * na) (λ k. getD t k 0)) where
+  -- the word at AT a of row k
+  abbrev word : ℕ → ℕ → ℕ
+  word k a = getD t (k * na + a) 0
+
+  word-bit : (j k a : ℕ) → k < n → a < na → Has j (word k a) → Has j any
+  word-bit j k a b l h = rw u (union-has (n * na) (λ i. getD t i 0) j (k * na + a) (omega (arith, row-inside n na k b)) h)
+
+  word-low : (k a : ℕ) → k < n → a < na → word k a ≤ any
+  word-low k a b l = rw u (union-ge (n * na) (λ i. getD t i 0) (k * na + a) (omega (arith, row-inside n na k b)))
+
+  by-row : ((k a : ℕ) → k < n → a < na → Led na (word k) a) → any < 4294967296 → unionBelow n (sharingAt na t) ≡ 0
+  unfolding sharingAt markAt
+  by-row f s = zero-union n (sharingAt na t) (λ k b. held-row na (word k) (λ a l. omega (arith, word-low k a b l)) (λ a l. f k a b l))
+
+  -- none names an AT
+  pub names-none : any / 2 ^ 28 ≡ 0 → unionBelow n (sharingAt na t) ≡ 0
+  names-none s = by-row (λ k a b l p. absurd (omega (arith, word-low k a b l))) (omega arith)
+
+  -- a bit that is not in any is in no word
+  bit-none : (j k a : ℕ) → k < n → a < na → any / 2 ^ j % 2 ≡ 0 → word k a / 2 ^ j % 2 ≡ 0
+  bit-none j k a b l z =
+      cases (λ c. word k a / 2 ^ j % 2 ≡ 0) (eqb (word k a / 2 ^ j % 2) 1)
+      (λ h. absurd (omega (arith, word-bit j k a b l (eqb→eq (word k a / 2 ^ j % 2) 1 h)))) (λ h. let d = neqb (word k a / 2 ^ j % 2) 1 h in omega arith)
+
+  -- none names an AT other than 0, which has blocks in each row that names it
+  pub firsts-none : any / 2 ^ 28 ≡ 8 → unionBelow n (λ k. firstBits na t (k * na)) / 2 ^ 28 ≡ 0 → unionBelow n (sharingAt na t) ≡ 0
+  unfolding firstBits useSharedOf sharedAtOf
+  firsts-none s f =
+      by-row (λ k a b l p.
+      let w = word k a in
+      let named : w / 2 ^ 28 ≡ 8 =
+      eight (shr-shr w 28 1) (shr-shr w 29 1) p (omega (arith, word-low k a b l)) (bit-none 28 k a b l (omega arith)) (bit-none 29 k a b l (omega arith)) (bit-none 30 k a b l (omega arith)) in
+      let own : k * na ≡ k * na + sharedAtOf w = omega arith in
+      let row = unionBelow na (word k) in
+      let unheld : getD t (k * na) 0 % 65536 ≡ 0 → ⊥ =
+      λ z. omega (arith, union-ge na (word k) a l, union-ge n (λ j. firstBits na t (j * na)) k b, cond-yes (eqb (getD t (k * na) 0 % 65536) 0) row 0 (eqb-in (getD t (k * na) 0 % 65536) 0 z)) in
+      (omega arith, (omega arith, λ z. unheld (ap (λ (i : ℕ). getD t i 0 % 65536) own ∙ low-blocks (word k (sharedAtOf w)) ∙ z)))) (omega arith)
 
 -- every word is 0
 pub zeros-summed : (na n : ℕ) (t : List ℕ) → AtMost (λ k. getD t k 0) (n * na) 0 → TableSummed na t n (record { form = 0; sharing = 0; blocks = 0 })
@@ -81,7 +118,7 @@ zeros-summed na n t h =
     let none : (k : ℕ) → k < n * na → getD t k 0 ≡ 0 = λ k b. omega (arith, h .each k b) in
     record {
       form = sym (zero-union (n * na) (formAt t) (λ k b. form-of (getD t k 0) (omega (arith, none k b)) (unset (none k b))));
-      sharing = sym (names-none na n t 0 (omega arith) h);
+      sharing = sym (names-none na n t 0 (sym (zero-union (n * na) (λ k. getD t k 0) none)) refl);
       blocks = sym (sum-zero (n * na) (blocksAt t) (λ k b. omega (arith, none k b)));
     }
 

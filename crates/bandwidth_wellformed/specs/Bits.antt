@@ -34,6 +34,10 @@ lacking m = bitOr (m % 65536) (bitOr (m / 2 ^ 16) 1) - bitOr (m / 2 ^ 16) 1
 unfoldable pub sharingAt : ℕ → List ℕ → ℕ → ℕ
 sharingAt na t rcid = lacking (unionBelow na (markAt t (rcid * na)))
 
+-- the bits of the row from base on, where its first word has no blocks
+unfoldable pub firstBits : ℕ → List ℕ → ℕ → ℕ
+firstBits na t base = cond (eqb (getD t base 0 % 65536) 0) (unionBelow na (λ a. getD t (base + a) 0)) 0
+
 -- all ones where more bytes are used than the blocks of the word hold
 unfoldable pub overAt : ℕ → List ℕ → List ℕ → ℕ → ℕ
 overAt q active used i = cond (leb (getD used i 0) (blocksAt active i * q)) 0 4294967295
@@ -42,9 +46,9 @@ overAt q active used i = cond (leb (getD used i 0) (blocksAt active i * q)) 0 42
 pub record AtMost (f : ℕ → ℕ) (n m : ℕ) : Type 0 where
   pub each : (k : ℕ) → k < n → f k ≤ m
 
--- the first n words: none is above any, and their form bits and blocks
+-- the first n words: all their bits, their form bits and blocks
 pub record Scanned (t : List ℕ) (n any form blocks : ℕ) : Type 0 where
-  pub at-most : AtMost (λ k. getD t k 0) n any
+  pub any-is : any ≡ unionBelow n (λ k. getD t k 0)
   pub form-is : form ≡ unionBelow n (formAt t)
   pub blocks-are : blocks ≡ sumBelow n (blocksAt t)
 

@@ -57,7 +57,7 @@ pub fn span_at(r: usize, nr: usize, na: u32) -> Span
 }
 
 // A number that no word is above: all their bits.
-pub fn union32(t: &[u32]) -> u32
+fn union32(t: &[u32]) -> u32
     ensures { λ r. ⌜ AtMost (λ k. getD (now (t .entry)) k 0) (length (now (t .entry))) r ⌝ }
 {
     let mut bits = 0u32;

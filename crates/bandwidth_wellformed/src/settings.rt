@@ -27,7 +27,7 @@ struct Scan {
     blocks: u32,
 }
 
-// The words one by one: a number that none is above, the bits that may not be there, and the blocks.
+// The words one by one: all their bits, the bits that may not be there, and the blocks.
 fn scan_words(t: &[u32]) -> Scan
     requires { ⌜ length (now t) ≤ 2048 ⌝ }
     ensures { λ r. ⌜ Scanned (now (t .entry)) (length (now (t .entry))) (r .any) (r .form) (r .blocks) ⌝ }
@@ -51,7 +51,7 @@ pub struct TableSums {
     pub blocks: u32,
 }
 
-// The rows of a table: one that is all 0 is passed over, and so are the sharers of one that names no AT.
+// The rows of a table; one that is all 0 is passed over.
 fn sum_table(t: &[u32], rows: usize, na: u32) -> TableSums
     requires { ⌜ Table na rows (now t) ⌝ }
     ensures { λ r. ⌜ TableSummed na (now (t .entry)) rows r ⌝ }
@@ -64,14 +64,7 @@ fn sum_table(t: &[u32], rows: usize, na: u32) -> TableSums
         };
     }
     let s = scan_words(t);
-    if s.any >> 28 == 0 {
-        return TableSums {
-            form: s.form,
-            sharing: 0,
-            blocks: s.blocks,
-        };
-    }
-    let sharing = sharing_bits(t, rows, na);
+    let sharing = sharing_bits(t, rows, na, s.any);
     TableSums {
         form: s.form,
         sharing,

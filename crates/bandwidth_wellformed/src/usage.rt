@@ -1,6 +1,6 @@
 // Used bytes: at most the blocks of each word times Q.
+use crate::parts::all_zero;
 use crate::parts::pick;
-use crate::parts::union32;
 ghost use mathlib.Core.Path.{_≡_};
 ghost use mathlib.Core.Bool.{cond};
 ghost use Prim.Native.Nat.{_*_, _^_, _<_, _≤_};
@@ -62,7 +62,7 @@ pub fn over_bits(active: &[u32], used: &[u32], q: u32) -> u32
     requires { ⌜ ((1 ≤ q) × (q ≤ 65536)) × (length (now active) ≡ length (now used)) ⌝ }
     ensures { λ r. ⌜ r ≡ unionBelow (length (now (used .entry))) (overAt q (now (active .entry)) (now (used .entry))) ⌝ }
 {
-    if union32(used) == 0 {
+    if all_zero(used) {
         return 0;
     }
     if over_roughly(active, used, shift_of(q)) == 0 {

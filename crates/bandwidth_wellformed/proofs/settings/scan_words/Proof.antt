@@ -7,7 +7,7 @@ use lib.ListN.{length}
 use Rattle.tables.proofs.Laws.{sum-none, sum-next}
 use Rattle.tables.proofs.Union.{union-none, union-next}
 use Rattle.bandwidth_wellformed.specs.Bits.{formAt, blocksAt, Scanned}
-use Rattle.bandwidth_wellformed.proofs.Passes.{at-most-none, at-most-next, blocks-low}
+use Rattle.bandwidth_wellformed.proofs.Passes.{blocks-low}
 use Rattle.bandwidth_wellformed.proofs.settings.scan_words.Statement.{statement}
 use Rattle.bandwidth_wellformed.proofs.settings.scan_words.Tie as tie
 
@@ -24,7 +24,7 @@ loop-again : tie.Need-loop-again Inv-loop μ-loop
 unfolding formAt blocksAt
 loop-again c =
     let l = c .before .before .before .loop in
-    (omega arith, record { at-most = at-most-next _ _ _ (l .inv .1 .at-most); form-is = rw union-next (cc); blocks-are = rw sum-next (cc) })
+    (omega arith, record { any-is = rw union-next (cc); form-is = rw union-next (cc); blocks-are = rw sum-next (cc) })
 
 returns : tie.Need-returns Inv-loop μ-loop
 returns c =
@@ -35,6 +35,6 @@ pub scan-words-spec : {M : Type 1} → statement M
 scan-words-spec =
     tie.close
     (tie.spec Inv-loop μ-loop
-    (λ c. (omega arith, record { at-most = at-most-none _ _; form-is = sym (union-none _); blocks-are = sym (sum-none _) }))
+    (λ c. (omega arith, record { any-is = sym (union-none _); form-is = sym (union-none _); blocks-are = sym (sum-none _) }))
     (λ c. search needs) (λ c. search needs) (λ c κs. search needs) add-blocks (λ c. search needs) (λ c. search needs)
     loop-again returns)

@@ -1,28 +1,22 @@
 -- `bandwidth_wellformed::settings::sum_table` meets its contract.
-use mathlib.Core.Path.{sym}
-use native.Mathlib.Omega.{arith}
 use borrow.Author.Needs.{needs}
 use Rattle.tables.proofs.Tests.{of-true}
-use Rattle.bandwidth_wellformed.proofs.Passes.{names-none, zeros-summed}
+use Rattle.bandwidth_wellformed.proofs.Passes.{zeros-summed}
 use Rattle.bandwidth_wellformed.proofs.settings.sum_table.Statement.{statement}
 use Rattle.bandwidth_wellformed.proofs.settings.sum_table.Tie as tie
 
 returns : tie.Need-returns
 returns c = zeros-summed _ _ _ (rw (c .before .before .before .pre .long) (c .before .all-zero .ensures (of-true (c .if1 .taken))))
 
+sharing-bits-requires : tie.Need-sharing-bits-requires
+sharing-bits-requires c κs = (search needs, c .scan-words .ensures .any-is)
+
 returns-2 : tie.Need-returns-2
 returns-2 c =
-    let long = c .before .before .before .before .before .before .pre .long in
-    let s = c .before .before .scan-words in
-    let e = s .ensures in
-    record { form = rw long (e .form-is); sharing = sym (names-none _ _ _ (s .result .any) (omega arith) (rw long (e .at-most))); blocks = rw long (e .blocks-are) }
-
-returns-3 : tie.Need-returns-3
-returns-3 c =
-    let long = c .before .before .before .before .before .before .before .pre .long in
-    let e = c .before .before .before .scan-words .ensures in
+    let long = c .before .before .before .before .before .pre .long in
+    let e = c .before .scan-words .ensures in
     record { form = rw long (e .form-is); sharing = c .sharing-bits .ensures; blocks = rw long (e .blocks-are) }
 
 pub sum-table-spec : {M : Type 1} → statement M
 sum-table-spec =
-    tie.close (tie.spec (λ c κs. search needs) returns (λ c κs. search needs) returns-2 (λ c κs. search needs) returns-3)
+    tie.close (tie.spec (λ c κs. search needs) returns (λ c κs. search needs) sharing-bits-requires returns-2)

@@ -1,0 +1,44 @@
+-- `bandwidth_bytes::sums::sum_parts` meets its contract.
+use mathlib.Core.Path.{_≡_}
+use Prim.Native.Nat.{_≤_, _-_}
+use native.Mathlib.Omega.{arith}
+use borrow.Author.Needs.{needs}
+use Rattle.words.specs.Words.{tableOf}
+use Rattle.bandwidth_wellformed.specs.Tables.{Summed}
+use Rattle.bandwidth_wellformed.proofs.Sums.{span-rows, sums-more, sums-fit}
+use Rattle.bandwidth_bytes.specs.View.{Loads}
+use Rattle.bandwidth_bytes.proofs.Parts.{span-in}
+use Rattle.bandwidth_bytes.proofs.sums.sum_parts.Statement.{statement}
+use Rattle.bandwidth_bytes.proofs.sums.sum_parts.Tie as tie
+
+abbrev Inv-loop : tie.InvT-loop
+Inv-loop active configured used a₀ c₀ u₀ nr na q sums₀ r₀ a c u sums r = (r ≤ nr) × (Loads 64 a c u × Summed na q (tableOf 4 active) (tableOf 4 configured) (tableOf 4 used) r sums)
+
+abbrev μ-loop : tie.MeasureT-loop
+μ-loop active configured used a₀ c₀ u₀ nr na q sums₀ r₀ a c u sums r = nr - r
+
+sum-part-requires : tie.Need-sum-part-requires Inv-loop μ-loop
+sum-part-requires c κs =
+    let s = c .before .before .before .before .span-at .ensures in
+    let p = c .before .before .before .before .before .before .before .before .before .before .before .before .before .before .pre in
+    (span-in s (p .0), ((s .short, c .before .before .before .before .before .before .loop .inv .1 .0), span-rows s (p .1 .1)))
+
+add-sums-requires : tie.Need-add-sums-requires Inv-loop μ-loop
+add-sums-requires c κs = sums-fit (c .before .before .before .before .before .before .before .before .before .before .before .span-at .ensures) (c .before .before .before .before .before .before .before .before .before .before .before .before .before .loop .inv .1 .1) (c .before .before .before .before .before .before .sum-part .ensures)
+
+loop-again : tie.Need-loop-again Inv-loop μ-loop
+loop-again c =
+    let s = c .before .before .before .before .before .before .before .before .before .before .before .before .span-at .ensures in
+    let i = c .before .before .before .before .before .before .before .before .before .before .before .before .before .before .loop .inv .1 in
+    (s .inside, (record { a-long = search needs; c-long = search needs; u-long = search needs }, sums-more s (i .1) (c .before .before .before .before .before .before .before .sum-part .ensures) (c .add-sums .ensures)))
+
+returns : tie.Need-returns Inv-loop μ-loop
+returns c =
+    let e : c .before .loop .r ≡ c .before .before .before .before .before .before .before .before .before .args .nr = omega arith in
+    rw e at (c .before .loop .inv .1 .1)
+
+pub sum-parts-spec : {M : Type 1} → statement M
+sum-parts-spec =
+    tie.close
+    (tie.spec Inv-loop μ-loop (λ c κs. search needs) (λ c. (omega arith, (c .before .before .before .before .before .before .before .pre .1 .0, c .no-sums .ensures _ _ _ _ _))) (λ c κs. search needs) (λ c. search needs) (λ c. search needs) sum-part-requires add-sums-requires
+    (λ c. search needs) loop-again (λ c. search needs) (λ c. search needs) (λ c. search needs) returns)

@@ -1,0 +1,31 @@
+-- `bandwidth_wellformed::rows::first_bits` meets its contract.
+use mathlib.Core.Path.{_≡_, sym}
+use Prim.Native.Nat.{_+_, _≤_, _-_}
+use native.Mathlib.Omega.{arith}
+use borrow.Author.Needs.{needs}
+use lib.ListN.{getD}
+use Rattle.tables.specs.Below.{unionBelow}
+use Rattle.bandwidth_wellformed.specs.Bits.{firstBits}
+use Rattle.tables.proofs.Union.{union-none, union-next}
+use Rattle.bandwidth_wellformed.proofs.rows.first_bits.Statement.{statement}
+use Rattle.bandwidth_wellformed.proofs.rows.first_bits.Tie as tie
+
+abbrev Inv-loop : tie.InvT-loop
+Inv-loop t base na m₀ a₀ m a = (a ≤ na) × (m ≡ unionBelow a (λ k. getD t (base + k) 0))
+
+abbrev μ-loop : tie.MeasureT-loop
+μ-loop t base na m₀ a₀ m a = na - a
+
+loop-again : tie.Need-loop-again Inv-loop μ-loop
+loop-again c = (omega arith, rw union-next (cc))
+
+returns : tie.Need-returns Inv-loop μ-loop
+unfolding firstBits
+returns c = let e : c .before .before .before .loop .a ≡ c .before .before .before .before .before .args .na = omega arith in cc
+
+pub first-bits-spec : {M : Type 1} → statement M
+first-bits-spec =
+    tie.close
+    (tie.spec Inv-loop μ-loop (λ c. (omega arith, sym (union-none _)))
+    (λ c. search needs) (λ c. search needs) (λ c. search needs) (λ c. search needs) (λ c. search needs) (λ c. search needs)
+    loop-again (λ c. search needs) (λ c. search needs) (λ c κs. search needs) returns)
