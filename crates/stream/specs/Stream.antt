@@ -56,9 +56,10 @@ pub record Ends (chunk : List ℕ) (from r : ℕ) : Type 0 where
   pub most : r ≤ length chunk
   pub stop : r < length chunk → getD chunk r 0 ≡ 10
 
--- the first r bytes of new are the ones to keep
+-- the first r bytes of new are the ones to keep; those beyond are old's
 pub record Kept (old keep new : List ℕ) (r : ℕ) : Type 0 where
   pub is : take r new ≡ keep
+  pub rest : drop r new ≡ drop r old
   pub most : r ≤ 81
   pub long : length new ≡ length old
 
