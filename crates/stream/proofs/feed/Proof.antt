@@ -68,12 +68,10 @@ returns c =
     let s = c .before .before .before .before .before .before .before .before .before .before .before .before .before .before .before .before .args in
     let g = c .before .before .before .before .before .before .before .before .before .before .before .before .before .before .before .before .good in
     let long : length (s .state .line) ≡ 81 = search needs in
-    let z : length (take (l .n) (l .line)) ≡ l .n = length-take-le _ _ (omega (arith, l .inv .few, l .inv .long)) in (
-      fed-by (c .before .before .before .before .before .before .held .ensures .same (s .state .line) long)
-          (l .inv .is ∙ at-end (s .chunk .now) (l .from) (l .i) (l .inv .ends) _ (take (l .n) (l .line)) (omega (arith, l .inv .few)) _ _ (omega (arith, l .inv .ends .most)) (c .hold .ensures .is))
-          (search needs),
-      l .inv .kept,
-    )
+    let z : length (take (l .n) (l .line)) ≡ l .n = length-take-le _ _ (omega (arith, l .inv .few, l .inv .long)) in
+    let same = c .before .before .before .before .before .before .held .ensures .same (s .state .line) long in
+    let is = l .inv .is ∙ at-end (s .chunk .now) (l .from) (l .i) (l .inv .ends) _ (take (l .n) (l .line)) (omega (arith, l .inv .few)) _ _ (omega (arith, l .inv .ends .most)) (c .hold .ensures .is) in
+    (fed-by same is (search needs), l .inv .kept)
 
 pub feed-spec : {M : Type 1} → statement M
 feed-spec = tie.close (tie.spec Inv-loop μ-loop (λ c κs. search needs) (λ c κs. search needs) loop-holds (λ c. search needs) (λ c. search needs) (λ c. search needs) (λ c κs. search needs) (λ c. search needs) slice-aggregate-full-line (λ c κs. search needs) (λ c κs. search needs) add-from line-end-requires-2 (λ c. search needs) loop-again (λ c. search needs) (λ c. search needs) (λ c. search needs) (λ c κs. search needs) (λ c. search needs) (λ c. search needs) (λ c. search needs) (λ c. search needs) (λ c. search needs) (λ c. search needs) returns)
