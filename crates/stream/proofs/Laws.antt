@@ -13,11 +13,13 @@ use Rattle.parse.specs.Parse.{parseOf}
 use Rattle.parse.specs.declared.Command.{Command}
 use Rattle.print.specs.declared.Reply.{Reply}
 use Rattle.print.specs.Print.{lineOf, Wrote}
+use Rattle.print.proofs.Laws.{beyond, wrote-as}
 use Rattle.session.specs.Session.{Controller, Turn, turn, turnOf}
-use Rattle.session.specs.View.{controllerOf}
+use Rattle.session.specs.View.{controllerOf, KeptFrom}
+use Rattle.session.proofs.Laws.{kept-both}
 use Rattle.bandwidth.specs.declared.Record.{Record}
 use Rattle.stream.specs.Output.{afterLine, printedFor}
-use Rattle.stream.specs.Stream.{Stream, stream, byte, feedOf, lastPrinted, lineSpan, Ends, joinOf, fullLine, Answered, Fed, Finished}
+use Rattle.stream.specs.Stream.{Stream, stream, byte, feedOf, lastPrinted, lineSpan, Ends, joinOf, fullLine, Answered, Fed, Finished, KeptBeyond}
 use Rattle.stream.proofs.Cut.{after-cut, printed-cut, take-twice}
 use Rattle.stream.proofs.Whole.{fed-after, finished-after}
 
@@ -29,7 +31,7 @@ answered {c} {c′} {line} {old} {new} {at} {r} {command} {reply} p q w =
     let o : turn c′ reply ≡ turnOf c (parseOf line) = q ∙ ap (turnOf c) p in
     record {
       controller-is = ap (λ (t : Turn). t .controller) o;
-      wrote = record { is = w .is ∙ ap (λ (t : Turn). take at old ++ lineOf (t .reply)) o; small = w .small };
+      wrote = wrote-as w (ap (λ (t : Turn). lineOf (t .reply)) o) (omega arith);
     }
 
 -- ---- where a line ends
@@ -133,6 +135,12 @@ module _ (chunk : List ℕ) (from i : ℕ) (ends : Ends chunk from i) (c : Contr
   unfolding feedOf
   at-end held′ w e q = to-end w ∙ rw (e, drop-length chunk, q)
 
+-- ---- what is kept: one answer more
+
+pub kept-more : {active configured used counters events out active′ configured′ used′ counters′ events′ mid active″ configured″ used″ counters″ events″ new text : List ℕ} {room e r : ℕ} → KeptBeyond active configured used counters events out active′ configured′ used′ counters′ events′ mid e → KeptFrom 2048 256 active′ configured′ used′ counters′ events′ active″ configured″ used″ counters″ events″
+    → Wrote room mid e text new r → KeptBeyond active configured used counters events out active″ configured″ used″ counters″ events″ new r
+kept-more {out = out} {mid = mid} {e = e} {r = r} k t w = record { tables = kept-both (k .tables) t; bytes = w .rest ∙ beyond e r mid out (w .grows) (k .bytes) }
+
 -- ---- the loop's invariant: what is left of the chunk leads to the same end
 
 pub record Going (start : Stream) (chunk out₀ active₀ configured₀ used₀ counters₀ events₀ : List ℕ) (r : Record) (active configured used counters events line : List ℕ)
@@ -148,6 +156,7 @@ pub record Going (start : Stream) (chunk out₀ active₀ configured₀ used₀ 
   pub size : length out ≡ length out₀
   pub room : end + 24 * (length chunk - from) ≤ length out
   pub is : feedOf start chunk ≡ feedOf (stream (controllerOf r active configured used counters events) (take n line) (take end out)) (drop from chunk)
+  pub kept : KeptBeyond active₀ configured₀ used₀ counters₀ events₀ out₀ active configured used counters events out end
 
 -- ---- the promises, from their equations
 

@@ -7,7 +7,7 @@ use lib.Dec.{eqb}
 use lib.ListN.{length, take, drop, getD}
 use Rattle.print.specs.Print.{Wrote}
 use Rattle.session.specs.Session.{Controller, none}
-use Rattle.session.specs.View.{controllerOf}
+use Rattle.session.specs.View.{controllerOf, KeptFrom}
 use Rattle.stream.specs.declared.State.{State}
 use Rattle.stream.specs.Output.{endedLines, rest, afterLine, printedFor, afterLines, printed, outputOf}
 
@@ -56,9 +56,10 @@ pub record Ends (chunk : List ℕ) (from r : ℕ) : Type 0 where
   pub most : r ≤ length chunk
   pub stop : r < length chunk → getD chunk r 0 ≡ 10
 
--- the first r bytes of new are the ones to keep
+-- the first r bytes of new are the ones to keep; those beyond are old's
 pub record Kept (old keep new : List ℕ) (r : ℕ) : Type 0 where
   pub is : take r new ≡ keep
+  pub rest : drop r new ≡ drop r old
   pub most : r ≤ 81
   pub long : length new ≡ length old
 
@@ -93,3 +94,9 @@ pub record Finished (c : Controller) (held out : List ℕ) (r : ℕ) : Type 0 wh
   -- whatever text came before: all that was written is the output of the whole input
   pub whole : (text written : List ℕ) → stream c held written ≡ streamOf text → written ++ take r out ≡ outputOf text
   pub used : r ≤ length out
+
+-- kept: the words of the tables beyond the largest set-up's 2,048 pairs and 256 MCIDs, and the bytes beyond the first r of out
+-- the words before those and beyond the controller's own are what earlier controllers left, which nobody reads
+pub record KeptBeyond (active configured used counters events out active′ configured′ used′ counters′ events′ out′ : List ℕ) (r : ℕ) : Type 0 where
+  pub tables : KeptFrom 2048 256 active configured used counters events active′ configured′ used′ counters′ events′
+  pub bytes : drop r out′ ≡ drop r out

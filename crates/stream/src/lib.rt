@@ -5,8 +5,8 @@ ghost use mathlib.Core.Path.{_≡_};
 ghost use mathlib.Core.List.{_++_};
 ghost use Prim.Native.Nat.{_+_, _*_, _≤_};
 ghost use lib.ListN.{length, take};
-ghost use Rattle.session.specs.View.{controllerOf, Tables};
-ghost use Rattle.stream.specs.Stream.{Held, Ends, Kept, joinOf, fullLine, Started, Answered, Fed, Finished};
+ghost use Rattle.session.specs.View.{controllerOf, Tables, KeptFrom};
+ghost use Rattle.stream.specs.Stream.{Held, Ends, Kept, joinOf, fullLine, Started, Answered, Fed, Finished, KeptBeyond};
 ghost use Rattle.stream.specs.Claim.{Claim};
 
 // The record after a line, and where its answer ends.
@@ -41,8 +41,10 @@ fn answer(
     at: usize,
 ) -> Line
     requires { ⌜ Tables (now active) (now configured) (now used) (now counters) (now events) × (at + 24 ≤ length (now out)) ⌝ }
-    ensures { λ r. ⌜ Answered (controllerOf «record» (now (active .entry)) (now (configured .entry)) (now (used .entry)) (now (counters .entry)) (now (events .entry))) (now (line .entry)) (now (out .entry)) at
+    ensures answers { λ r. ⌜ Answered (controllerOf «record» (now (active .entry)) (now (configured .entry)) (now (used .entry)) (now (counters .entry)) (now (events .entry))) (now (line .entry)) (now (out .entry)) at
         (controllerOf (r .«record») (now (active .exit)) (now (configured .exit)) (now (used .exit)) (now (counters .exit)) (now (events .exit))) (now (out .exit)) (r .end) ⌝ }
+    ensures tables { λ r. ⌜ KeptFrom 2048 256 (now (active .entry)) (now (configured .entry)) (now (used .entry)) (now (counters .entry)) (now (events .entry))
+        (now (active .exit)) (now (configured .exit)) (now (used .exit)) (now (counters .exit)) (now (events .exit)) ⌝ }
 {
     let command = parse::parse(line);
     let turned = session::act(record, active, configured, used, counters, events, command);
@@ -147,8 +149,10 @@ pub fn feed(
     out: &mut [u8],
 ) -> Progress
     requires { ⌜ Tables (now active) (now configured) (now used) (now counters) (now events) × (24 * length (now chunk) ≤ length (now out)) ⌝ }
-    ensures { λ r. ⌜ Fed (controllerOf (state .«record») (now (active .entry)) (now (configured .entry)) (now (used .entry)) (now (counters .entry)) (now (events .entry))) (take (state .len) (state .line)) (now (chunk .entry))
+    ensures answers { λ r. ⌜ Fed (controllerOf (state .«record») (now (active .entry)) (now (configured .entry)) (now (used .entry)) (now (counters .entry)) (now (events .entry))) (take (state .len) (state .line)) (now (chunk .entry))
         (controllerOf (r .state .«record») (now (active .exit)) (now (configured .exit)) (now (used .exit)) (now (counters .exit)) (now (events .exit))) (take (r .state .len) (r .state .line)) (now (out .exit)) (r .used) ⌝ }
+    ensures lent { λ r. ⌜ KeptBeyond (now (active .entry)) (now (configured .entry)) (now (used .entry)) (now (counters .entry)) (now (events .entry)) (now (out .entry))
+        (now (active .exit)) (now (configured .exit)) (now (used .exit)) (now (counters .exit)) (now (events .exit)) (now (out .exit)) (r .used) ⌝ }
 {
     let mut record = state.record;
     let mut line = state.line;
@@ -198,7 +202,9 @@ pub fn finish(
     out: &mut [u8],
 ) -> usize
     requires { ⌜ Tables (now active) (now configured) (now used) (now counters) (now events) × (24 ≤ length (now out)) ⌝ }
-    ensures { λ r. ⌜ Finished (controllerOf (state .«record») (now (active .entry)) (now (configured .entry)) (now (used .entry)) (now (counters .entry)) (now (events .entry))) (take (state .len) (state .line)) (now (out .exit)) r ⌝ }
+    ensures answers { λ r. ⌜ Finished (controllerOf (state .«record») (now (active .entry)) (now (configured .entry)) (now (used .entry)) (now (counters .entry)) (now (events .entry))) (take (state .len) (state .line)) (now (out .exit)) r ⌝ }
+    ensures lent { λ r. ⌜ KeptBeyond (now (active .entry)) (now (configured .entry)) (now (used .entry)) (now (counters .entry)) (now (events .entry)) (now (out .entry))
+        (now (active .exit)) (now (configured .exit)) (now (used .exit)) (now (counters .exit)) (now (events .exit)) (now (out .exit)) r ⌝ }
 {
     let n = state.len;
     if n == 0 {

@@ -14,6 +14,7 @@ returns c =
     let full : length (take (a .n) (a .line .now)) ≡ a .n = length-take-le _ _ (omega arith) in
     record {
       is = c .hold .ensures .is ∙ joined (take (a .n) (a .line .now)) (a .part .now) (λ z. omega arith);
+      rest = c .hold .ensures .rest;
       most = c .hold .ensures .most;
       long = c .hold .ensures .long;
     }
@@ -21,7 +22,7 @@ returns c =
 returns-2 : tie.Need-returns-2
 returns-2 c =
     let z : c .before .before .args .n ≡ 0 = omega arith in
-    record { is = rw z refl; most = search needs; long = refl }
+    record { is = rw z refl; rest = refl; most = search needs; long = refl }
 
 pub join-spec : {M : Type 1} → statement M
 join-spec = tie.close (tie.spec (λ c κs. search needs) returns returns-2)
