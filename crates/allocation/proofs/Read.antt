@@ -11,7 +11,7 @@ use Rattle.fields.specs.Registers.{allocCtl, heldAt}
 use Rattle.fields.proofs.Registers.{allocCtl-fields, held-held}
 use Rattle.tables.proofs.Tests.{and-l, and-r, and-in, eqb-in, or-l}
 use Rattle.access.specs.Pairs.{Setting, ofPair, anyOf}
-use Rattle.allocation.specs.Allocation.{configLimit, opOf, rcidOf, atOf, statusOf, allocWord, status, done}
+use Rattle.allocation.specs.Allocation.{configLimit, opOf, rcidOf, atOf, statusOf, allocWord, operationStatus, succeeds}
 use Rattle.allocation.proofs.Operations.{status-lt}
 
 -- a setting that is made under a condition is of its own pair exactly where that holds
@@ -23,10 +23,10 @@ sets-own true q =
     (λ t. tt, λ t. or-l (r && a) false (and-in r a (eqb-in (q .rcid) (q .rcid) refl) (eqb-in (q .at) (q .at) refl)))
 sets-own false q = (λ t. t, λ t. t)
 
-module _ (nr na : ℕ) (bad : Bool) (v x : ℕ) (e : x ≡ allocWord na v 0 (status nr na bad v)) where
-  pub read-fields : unpack allocCtl x ≡ 0 ∷ status nr na bad v ∷ rcidOf v ∷ atOf na v ∷ opOf v ∷ []
+module _ (nr na : ℕ) (bad : Bool) (v x : ℕ) (e : x ≡ allocWord na v 0 (operationStatus nr na bad v)) where
+  pub read-fields : unpack allocCtl x ≡ 0 ∷ operationStatus nr na bad v ∷ rcidOf v ∷ atOf na v ∷ opOf v ∷ []
   unfolding allocWord rcidOf atOf opOf
-  read-fields = ap (unpack allocCtl) e ∙ allocCtl-fields na v (status nr na bad v) (status-lt nr na bad v)
+  read-fields = ap (unpack allocCtl) e ∙ allocCtl-fields na v (operationStatus nr na bad v) (status-lt nr na bad v)
 
   op-is : opOf x ≡ opOf v
   unfolding opOf
@@ -40,21 +40,21 @@ module _ (nr na : ℕ) (bad : Bool) (v x : ℕ) (e : x ≡ allocWord na v 0 (sta
   unfolding rcidOf
   rcid-is = ap (λ (l : List ℕ). getD l 2 0) read-fields
 
-  status-is : statusOf x ≡ status nr na bad v
+  status-is : statusOf x ≡ operationStatus nr na bad v
   unfolding statusOf
   status-is = ap (λ (l : List ℕ). getD l 1 0) read-fields
 
   -- CONFIG_LIMIT made the setting exactly where it is read with STATUS 1
   pub read-sets : {X : Type 0} (value : X)
-      → T (anyOf (ofPair (rcidOf x) (atOf na x)) (cond (done nr na bad configLimit v) (record { rcid = rcidOf v; at = atOf na v; value = value } ∷ []) []))
+      → T (anyOf (ofPair (rcidOf x) (atOf na x)) (cond (succeeds nr na bad configLimit v) (record { rcid = rcidOf v; at = atOf na v; value = value } ∷ []) []))
       ↔ ((opOf x ≡ configLimit) × (statusOf x ≡ 1))
-  unfolding done
+  unfolding succeeds
   read-sets value =
       let op = eqb (opOf v) configLimit in
-      let st = eqb (status nr na bad v) 1 in
-      let own = sets-own (done nr na bad configLimit v) (record { rcid = rcidOf v; at = atOf na v; value = value }) in
+      let st = eqb (operationStatus nr na bad v) 1 in
+      let own = sets-own (succeeds nr na bad configLimit v) (record { rcid = rcidOf v; at = atOf na v; value = value }) in
       rw (rcid-is, at-is) (
         λ t. let d = own .0 t in
-            (op-is ∙ eqb→eq (opOf v) configLimit (and-l op st d), status-is ∙ eqb→eq (status nr na bad v) 1 (and-r op st d)),
-        λ h. own .1 (and-in op st (eqb-in (opOf v) configLimit (sym op-is ∙ h .0)) (eqb-in (status nr na bad v) 1 (sym status-is ∙ h .1))),
+            (op-is ∙ eqb→eq (opOf v) configLimit (and-l op st d), status-is ∙ eqb→eq (operationStatus nr na bad v) 1 (and-r op st d)),
+        λ h. own .1 (and-in op st (eqb-in (opOf v) configLimit (sym op-is ∙ h .0)) (eqb-in (operationStatus nr na bad v) 1 (sym status-is ∙ h .1))),
       )

@@ -16,8 +16,7 @@ use Rattle.access.specs.declared.Refusal.the-variants.{Identifier}
 use Rattle.access.specs.Access.{registersEnd, readChecks, writeChecks}
 use Rattle.access.specs.Pairs.{knownAt}
 use Rattle.access.proofs.Pairs.{known-lt}
-use Rattle.allocation.specs.Allocation.{rcidOf}
-use Rattle.tables.specs.Below.{Small}
+use Rattle.tables.specs.View.{Small}
 use Rattle.tables.specs.Parts.{part, withPart, RowAt}
 use Rattle.tables.proofs.Tests.{nor-l, of-true, of-false}
 use Rattle.monitor.specs.Monitor.{Monitor, cleared, monStatus, monAfter, writeMon, counted}
@@ -27,9 +26,9 @@ use Rattle.bandwidth_model.specs.Calls.{Call, reset, read, write, request, endW
 use Rattle.bandwidth_model.specs.Claim.{isReset}
 use Rattle.bandwidth_model.specs.Model.{State, Allocation, Usage, Outcome, lengthsOk, argumentChecks, stateChecks, readAt, opened, afterReset, afterWindow, grantOf, grantSum, spend, serve, serveFrom, requested, writeAlloc, writeBw, writeAt, perform, step}
 use Rattle.bandwidth_model.proofs.Steps.{checking}
-use Rattle.bandwidth_settings.specs.View.{allocation, Ready}
-use Rattle.bandwidth_settings.specs.Rows.{writeRow, Reserves}
-use Rattle.bandwidth_settings.proofs.Rows.{row-reserves, row-write}
+use Rattle.bandwidth_settings.specs.View.{Ready}
+use Rattle.bandwidth_settings.specs.Rows.{Reserves}
+use Rattle.bandwidth_settings.proofs.Rows.{row-reserves}
 use Rattle.bandwidth_grants.specs.View.{usage}
 use Rattle.bandwidth_grants.specs.Grants.{RowFits, RowGiven}
 use Rattle.bandwidth_grants.proofs.Rows.{row-fits, row-sum, row-spent}
@@ -160,11 +159,6 @@ module _ {s : State} {t : Totals} (p : Passes s t) where
 
   pub alloc-reserves : Reserves (s .setup) (t .configured)
   alloc-reserves = row-reserves ready
-
-  pub alloc-row : (v : ℕ) {from to ctl bw : ℕ} {left : List ℕ} → RowAt (s .setup .nr) (s .setup .na) (rcidOf v) from to
-      → allocation ctl bw left ≡ writeRow (s .setup) (t .configured) (s .alloc .bw) (part from (to - from) (s .alloc .configured)) v
-      → allocation ctl bw (withPart from (to - from) (s .alloc .configured) left) ≡ writeAlloc (s .setup) (s .alloc .bw) (s .alloc .configured) v
-  alloc-row v w e = row-write ready (s .alloc .bw) v w e
 
 module _ (s : State) (offset v : ℕ) where
   pub write-alloc-at : (a : Allocation) → offset ≡ 24 → a ≡ writeAlloc (s .setup) (s .alloc .bw) (s .alloc .configured) v

@@ -14,7 +14,7 @@ use Rattle.monitor.specs.Monitor.{monWord, statusOf, counterOk, settingOk, moni
 use Rattle.monitor.specs.Bytes.{lastEvent}
 use Rattle.monitor.proofs.Forms.{named-all}
 use Rattle.bandwidth_model.specs.Rules.{Setup, pairs, reserved, total, poolOf}
-use Rattle.bandwidth_model.specs.Facts.{Sized}
+use Rattle.bandwidth_model.specs.View.{Sized}
 use Rattle.bandwidth_model.specs.Model.{State, tableOk, usageOk, registersOk, lengthsOk, wellFormed, stateChecks}
 use Rattle.bandwidth_model.proofs.Setup.{setup-ok}
 use Rattle.bandwidth_model.proofs.Steps.{Passing}

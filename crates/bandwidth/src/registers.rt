@@ -19,7 +19,7 @@ use monitor::write_mon;
 ghost use mathlib.Core.Path.{_≡_};
 ghost use mathlib.Core.List.{List};
 ghost use Prim.Native.Nat.{ℕ};
-ghost use Rattle.bandwidth_model.specs.Facts.{Ranges};
+ghost use Rattle.bandwidth_model.specs.View.{Ranges};
 ghost use Rattle.bandwidth_model.specs.Calls.{read, write};
 ghost use Rattle.bandwidth_model.specs.Model.{capabilities, register, writeAt, step};
 ghost use Rattle.bandwidth_setup.specs.View.{setupOf};

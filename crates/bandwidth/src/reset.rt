@@ -12,7 +12,7 @@ use tables::fill64;
 use tables::put32;
 ghost use mathlib.Core.Path.{_≡_};
 ghost use lib.ListN.{length};
-ghost use Rattle.bandwidth_model.specs.Facts.{Ranges, Sized};
+ghost use Rattle.bandwidth_model.specs.View.{Ranges, Sized};
 ghost use Rattle.bandwidth_model.specs.Calls.{reset};
 ghost use Rattle.bandwidth_model.specs.Rules.{pairs, resetTable};
 ghost use Rattle.bandwidth_model.specs.Model.{step};

@@ -6,7 +6,7 @@ use Prim.Native.Nat.{ℕ, _-_}
 use native.Mathlib.Omega.{arith}
 use lib.Dec.{T, leb, lit<}
 use lib.ListN.{length, getD, set, replicate}
-use Rattle.tables.specs.Below.{Small}
+use Rattle.tables.specs.View.{Small}
 use Rattle.tables.specs.Parts.{RowAt}
 use Rattle.words.specs.Words.{wordsOf, bytesOfAll, withWord, tableOf, Holds}
 use Rattle.words.proofs.Table.{zero-bytes}
@@ -37,7 +37,7 @@ use Rattle.bandwidth.specs.View.{state, outcome, readingOf}
 use Rattle.bandwidth.proofs.Calls as bandwidth
 use Rattle.bandwidth.proofs.Calls.{end-done, request-unknown, request-done, known-rcid, request-fits, serve-row, write-alloc-at, write-bw-at, write-mon-at, write-none}
 use Rattle.bandwidth_bytes.specs.Bytes.{Lent, lent, stateOf, lentOf, pointers, Reply, replyTo, setupFor, byteRefusal, stepBytes}
-use Rattle.bandwidth_bytes.specs.View.{wordsIn, stateIn, Tables, Words, Passing, Checked, GiveFits, Gave, Stores}
+use Rattle.bandwidth_bytes.specs.View.{wordsIn, stateIn, Tables, Passing, Checked, GiveFits, Gave, Stores}
 use Rattle.bandwidth_bytes.specs.declared.check.Held.{Held}
 use Rattle.bandwidth_bytes.specs.declared.check.Check.{Check}
 use Rattle.bandwidth_bytes.specs.declared.check.Check.the-variants.{Passed, Failed}

@@ -2,7 +2,7 @@
 use mathlib.Core.Path.{_≡_, refl, sym, ap, _∙_}
 use mathlib.Core.Bool.{Bool, true, false, not}
 use mathlib.Core.List.{List}
-use Prim.Native.Nat.{ℕ, _*_, _<_, _≤_}
+use Prim.Native.Nat.{ℕ, _*_, _<_}
 use native.Mathlib.Nat.{mul-le-mul}
 use native.Mathlib.Omega.{arith}
 use lib.Dec.{T, lit<}
@@ -25,7 +25,7 @@ use Rattle.bandwidth_wellformed.specs.declared.settings.Sums.{Sums}
 use Rattle.bandwidth_model.specs.Rules.{Setup, setupOk, pairs}
 use Rattle.bandwidth_model.specs.Calls.{Call, refused}
 use Rattle.bandwidth_model.specs.Claim.{isReset}
-use Rattle.bandwidth_model.specs.Facts.{Ranges}
+use Rattle.bandwidth_model.specs.View.{Ranges}
 use Rattle.bandwidth_model.specs.Model.{State, lengthsOk, wellFormed}
 use Rattle.bandwidth_model.proofs.Setup.{setup-ok}
 use Rattle.bandwidth.specs.declared.Record.{Record}

@@ -9,7 +9,7 @@ use Rattle.words.proofs.Parts.{table-length}
 use Rattle.tables.proofs.Tests.{and-l, and-r}
 use Rattle.replies.proofs.Laws.{by-lengths, passed}
 use Rattle.bandwidth_model.specs.Rules.{Setup, setupOk, pairs}
-use Rattle.bandwidth_model.specs.Facts.{Ranges, Sized}
+use Rattle.bandwidth_model.specs.View.{Ranges, Sized}
 use Rattle.bandwidth_model.proofs.Setup.{ranges}
 use Rattle.bandwidth_bytes.specs.Bytes.{Lent, recordLength, bytesFit, byteRefusal}
 use Rattle.bandwidth_bytes.specs.View.{Long}

@@ -11,7 +11,7 @@ use Rattle.tables.proofs.Parts.{part-at, part-length}
 use Rattle.bandwidth_model.specs.Rules.{Setup}
 use Rattle.bandwidth_model.specs.Model.{Allocation, writeAlloc}
 use Rattle.allocation.specs.Allocation.{rcidOf}
-use Rattle.bandwidth_settings.specs.View.{allocation, Ready}
+use Rattle.bandwidth_settings.specs.View.{Ready}
 use Rattle.bandwidth_settings.specs.declared.Written.{Written}
 use Rattle.bandwidth_settings.proofs.Rows.{row-write}
 use Rattle.bandwidth_grants.specs.Grants.{RowFits, RowGiven}

@@ -1,10 +1,8 @@
 -- Resets on bytes.
 use mathlib.Core.Path.{_≡_, refl, sym, ap, _∙_}
-use mathlib.Core.List.{List, [], _++_}
-use Prim.Native.Nat.{ℕ, _+_, _*_, _≤_}
-use native.Mathlib.Omega.{arith}
-use lib.Dec.{lit<}
-use lib.ListN.{length, drop, replicate}
+use mathlib.Core.List.{List, []}
+use Prim.Native.Nat.{ℕ, _*_}
+use lib.ListN.{length, replicate}
 use Rattle.tables.proofs.Tests.{is-true}
 use Rattle.tables.specs.Parts.{withPart}
 use Rattle.words.specs.Words.{bytesOfAll}
@@ -16,7 +14,7 @@ use Rattle.bandwidth_setup.specs.declared.Setup.{Setup}
 use Rattle.bandwidth_model.specs.Rules as rules
 use Rattle.bandwidth_model.specs.Rules.{setupOk, pairs, resetTable}
 use Rattle.bandwidth_model.specs.Calls.{reset}
-use Rattle.bandwidth_model.specs.Facts.{Ranges}
+use Rattle.bandwidth_model.specs.View.{Ranges}
 use Rattle.bandwidth_model.specs.Model.{lengthsOk, step}
 use Rattle.bandwidth_model.proofs.Setup.{setup-ok}
 use Rattle.bandwidth.specs.declared.Record.{Record}

@@ -4,13 +4,11 @@ use crate::record::load_record;
 use crate::sums::sum_bytes;
 use bandwidth::Record;
 use bandwidth::Totals;
+use bandwidth_wellformed::LAST_EVENT;
 use bandwidth_wellformed::tables_by;
 use monitor_bytes::bandwidth_counters_ok;
 use monitor_bytes::events_ok;
 ghost use Rattle.bandwidth_bytes.specs.View.{before, Checked};
-
-// The highest EVT_ID that the bandwidth controller knows.
-const LAST_EVENT: u16 = 3;
 
 // The record that the bytes hold, and what the settings tables reserve.
 pub struct Held {

@@ -14,7 +14,7 @@ ghost use Rattle.bandwidth_setup.specs.View.{setupOf};
 ghost use Rattle.words.specs.Words.{bytesOfAll};
 ghost use Rattle.replies.specs.Replies.{reply};
 ghost use Rattle.bandwidth_model.specs.Rules.{pairs, resetTable};
-ghost use Rattle.bandwidth_model.specs.Facts.{Ranges};
+ghost use Rattle.bandwidth_model.specs.View.{Ranges};
 ghost use Rattle.bandwidth_model.specs.Calls.{reset};
 ghost use Rattle.bandwidth_bytes.specs.Bytes.{stepBytes};
 ghost use Rattle.bandwidth_bytes.specs.View.{before, after, Tables, Fresh};

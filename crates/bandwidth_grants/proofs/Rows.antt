@@ -15,7 +15,7 @@ use Rattle.tables.proofs.Parts.{part-same}
 use Rattle.access.specs.Pairs.{pair, wordAt}
 use Rattle.access.proofs.Pairs.{pair-inside}
 use Rattle.bandwidth_model.specs.Rules.{Setup, pairs, weightOf, reserved, sharedAtOf, isHolder, isSharer, useSharedOf, total, Holder, nobody, held, holderOf, poolOf}
-use Rattle.bandwidth_model.specs.Facts.{Ranges}
+use Rattle.bandwidth_model.specs.View.{Ranges}
 use Rattle.bandwidth_model.specs.Model.{Usage, usageOk, fromReservation, fromPool, Grant, grantOf, grantSum, spend}
 use Rattle.bandwidth_model.proofs.Words.{reserved-le, shared-0, sharer-shared}
 use Rattle.bandwidth_model.proofs.Settings.{View, unset, holds, follows, TableFacts}

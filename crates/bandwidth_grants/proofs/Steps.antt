@@ -7,7 +7,7 @@ use native.Mathlib.Nat.{min-le-left}
 use native.Mathlib.Omega.{arith}
 use lib.Dec.{eqb}
 use lib.ListN.{getD, set}
-use Rattle.tables.specs.Below.{Small}
+use Rattle.tables.specs.View.{Small}
 use Rattle.bandwidth_model.specs.Rules.{Setup, weightOf, sharedAtOf, isHolder, isSharer, reserved, Holder, nobody, held}
 use Rattle.bandwidth_model.specs.Model.{fromReservation, Grant, grantSum, spend}
 use Rattle.bandwidth_grants.specs.View.{usage}

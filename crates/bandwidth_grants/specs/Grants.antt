@@ -4,7 +4,7 @@ use mathlib.Core.List.{List}
 use Prim.Native.Nat.{ℕ, _+_, _-_, _*_, _^_, _≤_, _<_, min}
 use Rattle.tables.specs.Notation.{if_then_else_, _==_, _‼_}
 use Rattle.bandwidth_model.specs.Rules.{Setup, weightOf, sharedAtOf, isHolder, isSharer, Holder, nobody, held}
-use Rattle.bandwidth_model.specs.Facts.{Ranges}
+use Rattle.bandwidth_model.specs.View.{Ranges}
 use Rattle.bandwidth_model.specs.Model.{fromReservation, Grant, grantSum, spend}
 use Rattle.bandwidth_grants.specs.View.{usage}
 

@@ -14,7 +14,7 @@ use Rattle.runs.specs.Claims.{controlAfter}
 use Rattle.runs.proofs.Settings as shared
 use Rattle.runs.proofs.Settings.{anew, none, sets-if, Settings}
 use Rattle.runs.proofs.Registers.{Parts, Registered, Agrees, Invariants, statusIn, monStatusIn}
-use Rattle.bandwidth_model.specs.Rules.{pairs, storedForm, badLimit, allocDone, limitOf}
+use Rattle.bandwidth_model.specs.Rules.{pairs, storedForm, badLimit, allocSucceeds, limitOf}
 use Rattle.bandwidth_model.specs.Calls.{Call, kindOf}
 use Rattle.bandwidth_model.specs.Model.{State, Allocation, registers, register, readAt, afterReset, writeAlloc, writeBw, writeAt, perform}
 use Rattle.bandwidth_model.specs.Rules.{Setup}
@@ -80,10 +80,10 @@ sets-call s asked granted sum closed =
     let su = s .setup in
     let conf = s .alloc .configured in
     let bw = s .alloc .bw in
-    let made : ℕ → Bool → List (Setting ℕ) = λ v x. cond (x && allocDone su conf bw configLimit v) (limitOf su bw v ∷ []) [] in
+    let made : ℕ → Bool → List (Setting ℕ) = λ v x. cond (x && allocSucceeds su conf bw configLimit v) (limitOf su bw v ∷ []) [] in
     call-by s (λ k s′. Sets s s′ (onWrite k (λ size offset v. made v (access.writesLow offset access.allocCtl)) []) (isReset k)) (λ u. anew)
     (λ size offset v. write-by s (λ x y z t. Sets s t (made v x) false) offset v
-    (sets-if _ _ _ _ s _ (limitOf su bw v) (allocDone su conf bw configLimit v) refl refl (λ d. let ok = accepted-limit su conf bw v d in (ok .rcid-low, ok .at-low)))
+    (sets-if _ _ _ _ s _ (limitOf su bw v) (allocSucceeds su conf bw configLimit v) refl refl (λ d. let ok = accepted-limit su conf bw v d in (ok .rcid-low, ok .at-low)))
     (none refl refl) (none refl refl) (none refl refl))
     (λ s′ k. none (k .setup) (ap (λ (a : Allocation). a .configured) (k .alloc)))
 

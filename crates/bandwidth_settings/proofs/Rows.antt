@@ -14,7 +14,7 @@ use Rattle.tables.proofs.Laws.{sum-le}
 use Rattle.tables.proofs.Parts.{part-at, part-same, part-set}
 use Rattle.access.specs.Checks.{_gives_, first}
 use Rattle.access.specs.Pairs.{pair, wordAt}
-use Rattle.allocation.specs.Allocation.{configLimit, readLimit, opOf, rcidOf, atOf, validOp, status, done, tableAfter, operandAfter}
+use Rattle.allocation.specs.Allocation.{configLimit, readLimit, opOf, rcidOf, atOf, validOp, operationStatus, succeeds, tableAfter, operandAfter}
 use Rattle.allocation.proofs.Operations.{done-pair}
 use Rattle.bandwidth_model.specs.Rules.{Setup, pairs, sharedAtOf, isHolder, storedForm, reserved, total, badHolder, shares, badSharer, badOperand, badLimit, limitOf, settled, configuredAfter, bwAfter}
 use Rattle.bandwidth_model.specs.Model.{Allocation, writeAlloc}
@@ -85,8 +85,8 @@ module _ {su : Setup} {table : List ℕ} {sum rcid from to : ℕ} (r : Ready su 
 -- ---- the operations
 
 -- a bad operand counts only where the pair is there
-status-by : (nr na v : ℕ) (x y : Bool) → (rcidOf v < nr → atOf na v < na → x ≡ y) → status nr na x v ≡ status nr na y v
-unfolding status
+status-by : (nr na v : ℕ) (x y : Bool) → (rcidOf v < nr → atOf na v < na → x ≡ y) → operationStatus nr na x v ≡ operationStatus nr na y v
+unfolding operationStatus
 status-by nr na v x y h = by (not (validOp (opOf v))) (leb nr (rcidOf v)) (leb na (atOf na v)) (nleb→lt nr (rcidOf v)) (nleb→lt na (atOf na v))
   where
     by : (invalid high over : Bool) → (T (not high) → rcidOf v < nr) → (T (not over) → atOf na v < na)
@@ -118,26 +118,26 @@ module _ {su : Setup} {table : List ℕ} {sum : ℕ} (r : Ready su table sum) wh
     abbrev bad : Bool
     bad = badOperandIn su sum named (atOf (su .na) v) bw
 
-    status-same : status (su .nr) (su .na) bad v ≡ status (su .nr) (su .na) (badLimit su table bw v) v
+    status-same : operationStatus (su .nr) (su .na) bad v ≡ operationStatus (su .nr) (su .na) (badLimit su table bw v) v
     unfolding badLimit
     status-same = status-by (su .nr) (su .na) v bad (badLimit su table bw v) (λ hr ha. row-operand r w hr (atOf (su .na) v) bw ha)
 
-    done-same : (op : ℕ) → done (su .nr) (su .na) bad op v ≡ done (su .nr) (su .na) (badLimit su table bw v) op v
-    unfolding done
+    done-same : (op : ℕ) → succeeds (su .nr) (su .na) bad op v ≡ succeeds (su .nr) (su .na) (badLimit su table bw v) op v
+    unfolding succeeds
     done-same op = rw status-same refl
 
     -- READ_LIMIT copies the table's word
-    read-same : cond (done (su .nr) (su .na) bad readLimit v) (getD named (atOf (su .na) v) 0) bw ≡ bwAfter su table bw v
+    read-same : cond (succeeds (su .nr) (su .na) bad readLimit v) (getD named (atOf (su .na) v) 0) bw ≡ bwAfter su table bw v
     unfolding operandAfter
     read-same = rw (done-same readLimit)
-        (cases (λ d. cond d (getD named (atOf (su .na) v) 0) bw ≡ cond d (wordAt (su .na) table (rcidOf v) (atOf (su .na) v)) bw) (done (su .nr) (su .na) (badLimit su table bw v) readLimit v)
+        (cases (λ d. cond d (getD named (atOf (su .na) v) 0) bw ≡ cond d (wordAt (su .na) table (rcidOf v) (atOf (su .na) v)) bw) (succeeds (su .nr) (su .na) (badLimit su table bw v) readLimit v)
         (λ t. let p = done-pair (su .nr) (su .na) (badLimit su table bw v) v readLimit t in row-word w (p .rcid-low) table (atOf (su .na) v) (p .at-low)) (λ n. refl))
 
     -- CONFIG_LIMIT sets the table's word
     table-same : withPart from (to - from) table (tableAfter (su .nr) (su .na) bad named (settledIn named (atOf (su .na) v) (storedForm bw)) v) ≡ configuredAfter su table bw v
     unfolding tableAfter
     table-same = rw (done-same configLimit)
-        (cases (λ d. withPart from (to - from) table (cond d (settledIn named (atOf (su .na) v) (storedForm bw)) named) ≡ cond d (settled su table (limitOf su bw v)) table) (done (su .nr) (su .na) (badLimit su table bw v) configLimit v)
+        (cases (λ d. withPart from (to - from) table (cond d (settledIn named (atOf (su .na) v) (storedForm bw)) named) ≡ cond d (settled su table (limitOf su bw v)) table) (succeeds (su .nr) (su .na) (badLimit su table bw v) configLimit v)
         (λ t. let p = done-pair (su .nr) (su .na) (badLimit su table bw v) v configLimit t in row-set w (p .rcid-low) table (atOf (su .na) v) (p .at-low) (storedForm bw)) (λ n. part-same table from (to - from)))
 
     -- the write to alloc_ctl by the row

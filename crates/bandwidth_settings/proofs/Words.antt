@@ -2,7 +2,7 @@
 use mathlib.Core.Path.{_≡_}
 use Prim.Native.Nat.{ℕ, _≤_}
 use native.Mathlib.Omega.{arith}
-use Rattle.tables.specs.Below.{Small}
+use Rattle.tables.specs.View.{Small}
 use Rattle.bandwidth_model.specs.Rules.{bwWord, storedForm}
 use Rattle.bandwidth_model.proofs.Words.{bw-lt, bw-stored}
 

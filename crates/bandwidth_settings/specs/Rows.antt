@@ -6,9 +6,9 @@ use lib.ListN.{set}
 use Rattle.tables.specs.Notation.{if_then_else_, _==_, _≤?_, _<?_, _‼_}
 use Rattle.tables.specs.Below.{anyBelow}
 use Rattle.fields.specs.Registers as reg
-use Rattle.allocation.specs.Allocation.{readLimit, atOf, allocWord, status, done, tableAfter}
+use Rattle.allocation.specs.Allocation.{readLimit, atOf, allocWord, operationStatus, succeeds, tableAfter}
 use Rattle.bandwidth_model.specs.Rules.{Setup, rbwbOf, sharedAtOf, useSharedOf, storedForm, isHolder, isSharer, reserved}
-use Rattle.bandwidth_model.specs.Facts.{Ranges}
+use Rattle.bandwidth_model.specs.View.{Ranges}
 use Rattle.bandwidth_model.specs.Model.{Allocation}
 
 -- useShared 0: bad if Rbwb is 0, or Rbwb plus the Rbwb of every other configured holder exceeds MRBWB
@@ -41,8 +41,8 @@ writeRow su sum bw row v =
     let at = atOf (su .na) v in
     let bad = badOperandIn su sum row at bw in
     record {
-      ctl = allocWord (su .na) v reg.idle (status (su .nr) (su .na) bad v);
-      bw = if done (su .nr) (su .na) bad readLimit v then row ‼ at else bw;
+      ctl = allocWord (su .na) v reg.idle (operationStatus (su .nr) (su .na) bad v);
+      bw = if succeeds (su .nr) (su .na) bad readLimit v then row ‼ at else bw;
       configured = tableAfter (su .nr) (su .na) bad row (settledIn row at (storedForm bw)) v;
     }
 

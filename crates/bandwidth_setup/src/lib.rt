@@ -1,8 +1,8 @@
 // The set-up of a bandwidth controller.
 ghost use mathlib.Core.Path.{_≡_};
 ghost use Rattle.bandwidth_model.specs.Rules.{setupOk, pairs};
-ghost use Rattle.bandwidth_model.specs.Facts.{Ranges};
-ghost use Rattle.tables.specs.Below.{Small};
+ghost use Rattle.bandwidth_model.specs.View.{Ranges};
+ghost use Rattle.tables.specs.View.{Small};
 ghost use Rattle.bandwidth_setup.specs.View.{setupOf};
 
 // NBWBLKS, MRBWB, NR, NA, NM, Q and W.

@@ -10,7 +10,7 @@ use lib.Bits.{bitOr, or-add-and, and-le-l, and-le-r, or-step, or-shr, or-zero-l}
 use lib.Pow.{pow-lt, pow-mono, pow-pos, pow-add, shl-shr, shr-shr}
 use Rattle.fields.proofs.Laws.{field-mod}
 use Rattle.tables.proofs.Tests.{cases, neqb}
-use Rattle.tables.specs.Below.{unionBelow}
+use Rattle.tables.specs.View.{unionBelow}
 use Rattle.bandwidth_wellformed.specs.Bits.{lacking}
 
 -- ---- unions

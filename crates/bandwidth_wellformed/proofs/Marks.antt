@@ -9,7 +9,7 @@ use lib.Dec.{eqb}
 use lib.Pow.{pow-add, pow-pos}
 use Rattle.tables.proofs.Tests.{cases, cond-yes, neqb, neqb-in}
 use Rattle.bandwidth_model.specs.Rules.{rbwbOf, sharedAtOf, useSharedOf}
-use Rattle.tables.specs.Below.{unionBelow}
+use Rattle.tables.specs.View.{unionBelow}
 use Rattle.bandwidth_wellformed.specs.Bits.{mark, lacking}
 use Rattle.bandwidth_wellformed.proofs.Bits.{Has, has-left, has-right, has-or, has-not, has-own, has-pow, union-has, has-union, held, lacks-none}
 use Rattle.bandwidth_wellformed.proofs.Forms.{low-blocks}

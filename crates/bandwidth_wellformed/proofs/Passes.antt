@@ -12,7 +12,8 @@ use lib.Dec.{eqb, eqb→eq, leb, leb→le, le→leb}
 use lib.ListN.{length, getD}
 use lib.Pow.{pow-mono, shr-shr}
 use lib.Seq.{ext-getD}
-use Rattle.tables.specs.Below.{sumBelow, unionBelow}
+use Rattle.tables.specs.Below.{sumBelow}
+use Rattle.tables.specs.View.{unionBelow}
 use Rattle.bandwidth_model.specs.Rules.{sharedAtOf, useSharedOf}
 use Rattle.tables.proofs.Tests.{cases, cond-yes, eqb-in, neqb}
 use Rattle.tables.proofs.Laws.{sum-le, sum-zero}

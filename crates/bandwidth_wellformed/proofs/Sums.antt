@@ -1,12 +1,12 @@
 -- What the first rows of tables hold, and what a part after them holds by itself, together.
 use mathlib.Core.Path.{_≡_, refl, sym, ap, subst, _∙_}
 use mathlib.Core.List.{List}
-use Prim.Native.Nat.{ℕ, _+_, _-_, _*_, _%_, _^_, _≤_, _<_}
+use Prim.Native.Nat.{ℕ, _+_, _-_, _*_, _%_, _≤_, _<_}
 use native.Mathlib.Nat.{add-mul, zero-mul, mul-le-mul-right}
 use native.Mathlib.Omega.{arith}
 use lib.Bits.{bitOr}
 use lib.ListN.{getD}
-use Rattle.tables.specs.Below.{sumBelow, unionBelow}
+use Rattle.tables.specs.View.{unionBelow}
 use Rattle.tables.specs.Parts.{part}
 use Rattle.tables.proofs.Laws.{sum-add, sum-same}
 use Rattle.tables.proofs.Parts.{part-at, part-length, row-inside}

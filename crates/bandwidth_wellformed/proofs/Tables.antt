@@ -8,7 +8,8 @@ use native.Mathlib.Omega.{arith}
 use lib.Dec.{T, eqb, eqb→eq, leb, leb→le, le→leb}
 use lib.ListN.{length, getD}
 use Rattle.fields.specs.Registers as reg
-use Rattle.tables.specs.Below.{sumBelow, sumOf, allBelow, unionBelow}
+use Rattle.tables.specs.Below.{sumBelow, sumOf, allBelow}
+use Rattle.tables.specs.View.{unionBelow}
 use Rattle.tables.proofs.Tests.{and-l, and-r, and-in, eqb-in, same-test}
 use Rattle.tables.proofs.Laws.{sum-same, all-same}
 use Rattle.access.specs.Pairs.{pair, wordAt}
@@ -17,7 +18,7 @@ use Rattle.monitor.specs.Monitor.{counterOk, settingOk}
 use Rattle.monitor.specs.Bytes.{lastEvent}
 use Rattle.bandwidth_model.specs.Rules.{Setup, pairs, rbwbOf, sharedAtOf, useSharedOf, isHolder, reserved, total}
 use Rattle.bandwidth_model.specs.Model.{tableOk}
-use Rattle.bandwidth_model.specs.Facts.{Sized}
+use Rattle.bandwidth_model.specs.View.{Sized}
 use Rattle.bandwidth_model.proofs.Words.{shared-0, blocks-0, shared-1, not-0, stored-fields-1, holder-in, holder-shared, not-holder-0}
 use Rattle.bandwidth_model.proofs.Settings.{View, unset, holds, follows, TableFacts, table-ok, table-facts}
 use Rattle.bandwidth_wellformed.specs.Bits.{formAt, blocksAt, markAt, sharingAt, overAt}

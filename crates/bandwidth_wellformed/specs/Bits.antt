@@ -6,7 +6,8 @@ use mathlib.Core.List.{List}
 use lib.Bits.{bitAnd, bitOr}
 use lib.Dec.{leb, eqb}
 use lib.ListN.{getD}
-use Rattle.tables.specs.Below.{sumBelow, unionBelow}
+use Rattle.tables.specs.Below.{sumBelow}
+use Rattle.tables.specs.View.{unionBelow}
 
 -- the bits of a settings word that may not be there: unnamed ones, the Mweight of a word with no Rbwb, useShared and sharedAT beside an Rbwb
 unfoldable pub formBits : ℕ → ℕ

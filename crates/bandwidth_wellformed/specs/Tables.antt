@@ -7,11 +7,12 @@ use lib.Bits.{bitOr}
 use lib.Dec.{T, leb}
 use lib.ListN.{length, getD}
 use Rattle.fields.specs.Registers as reg
-use Rattle.tables.specs.Below.{allBelow, sumBelow, unionBelow}
+use Rattle.tables.specs.Below.{allBelow, sumBelow}
+use Rattle.tables.specs.View.{unionBelow}
 use Rattle.monitor.specs.Monitor.{counterOk, settingOk}
 use Rattle.monitor.specs.Bytes.{lastEvent}
 use Rattle.bandwidth_model.specs.Rules.{Setup, pairs, reserved, total}
-use Rattle.bandwidth_model.specs.Facts.{Sized}
+use Rattle.bandwidth_model.specs.View.{Sized}
 use Rattle.bandwidth_model.specs.Model.{tableOk}
 use Rattle.bandwidth_wellformed.specs.Bits.{formAt, blocksAt, sharingAt, overAt, AtMost}
 use Rattle.bandwidth_wellformed.specs.declared.TablesOk.{TablesOk}

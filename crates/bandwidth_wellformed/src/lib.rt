@@ -18,12 +18,12 @@ use settings::sum_tables;
 use settings::table_ok;
 ghost use mathlib.Core.List.{List};
 ghost use Prim.Native.Nat.{ℕ};
-ghost use Rattle.bandwidth_model.specs.Facts.{Ranges, Sized};
+ghost use Rattle.bandwidth_model.specs.View.{Ranges, Sized};
 ghost use Rattle.bandwidth_setup.specs.View.{setupOf};
 ghost use Rattle.bandwidth_wellformed.specs.Tables.{SummedTables, TablesChecked};
 
 // The highest EVT_ID that the bandwidth controller knows.
-const LAST_EVENT: u16 = 3;
+pub const LAST_EVENT: u16 = 3;
 
 // Whether the tables are well formed, and the blocks that each settings table reserves.
 pub struct TablesOk {

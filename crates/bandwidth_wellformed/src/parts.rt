@@ -3,7 +3,6 @@ use tables::word32;
 ghost use mathlib.Core.Path.{_≡_};
 ghost use mathlib.Core.Bool.{cond};
 ghost use Prim.Native.Nat.{_-_, _*_, _<_, _≤_};
-ghost use lib.Bits.{bitXor};
 ghost use lib.Dec.{T};
 ghost use lib.ListN.{length, getD};
 ghost use Rattle.bandwidth_wellformed.specs.Bits.{AtMost, SpanAt};

@@ -3,7 +3,7 @@ use crate::parts::pick;
 ghost use mathlib.Core.Path.{_≡_};
 ghost use Prim.Native.Nat.{_+_, _*_, _<_, _≤_};
 ghost use lib.ListN.{length, getD};
-ghost use Rattle.tables.specs.Below.{unionBelow};
+ghost use Rattle.tables.specs.View.{unionBelow};
 ghost use Rattle.bandwidth_wellformed.specs.Bits.{mark, markAt, lacking, sharingAt, firstBits};
 ghost use Rattle.bandwidth_wellformed.specs.Tables.{Table};
 

@@ -6,7 +6,7 @@ ghost use mathlib.Core.Bool.{cond};
 ghost use Prim.Native.Nat.{_*_, _^_, _<_, _≤_};
 ghost use lib.Dec.{leb};
 ghost use lib.ListN.{length};
-ghost use Rattle.tables.specs.Below.{unionBelow};
+ghost use Rattle.tables.specs.View.{unionBelow};
 ghost use Rattle.bandwidth_wellformed.specs.Bits.{overAt, AtMost};
 
 // All ones where more than blocks * q bytes are used.

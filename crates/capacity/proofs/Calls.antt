@@ -9,7 +9,7 @@ use lib.Dec.{T}
 use lib.ListN.{getD, set, replicate}
 use lib.Seq.{set-getD}
 use borrow.Author.Tests.{ne-eqb}
-use Rattle.tables.specs.Below.{Small}
+use Rattle.tables.specs.View.{Small}
 use Rattle.access.specs.Access as access
 use Rattle.access.specs.Checks.{first}
 use Rattle.access.specs.Pairs.{wordAt, knownAt}

@@ -21,7 +21,7 @@ use Rattle.allocation.specs.Allocation.{controlOk}
 use Rattle.monitor.specs.Monitor.{monWord, statusOf, counterOk, monitorOk}
 use Rattle.monitor.proofs.Forms.{named-all}
 use Rattle.capacity_model.specs.Rules.{Setup, setupOk, maskOf}
-use Rattle.capacity_model.specs.Facts.{Sized}
+use Rattle.capacity_model.specs.View.{Sized}
 use Rattle.capacity_model.specs.Model.{State, allocationOk, wellFormed, lengthsOk, setupChecks, stateChecks, blockChecks}
 use Rattle.capacity_model.proofs.Setup.{ranges}
 use Rattle.capacity_model.proofs.Steps.{Passing}

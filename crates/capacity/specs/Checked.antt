@@ -13,7 +13,7 @@ use Rattle.allocation.specs.Allocation.{rcidOf, atOf}
 use Rattle.monitor.specs.Monitor.{mcidOf, counterOk, settingOk}
 use Rattle.monitor.specs.Occupancy.{lastEvent}
 use Rattle.capacity_model.specs.Rules.{Setup, maskOf}
-use Rattle.capacity_model.specs.Facts.{Ranges, Sized}
+use Rattle.capacity_model.specs.View.{Ranges, Sized}
 use Rattle.capacity_model.specs.Model.{State, wellFormed, stateChecks}
 use Rattle.capacity.specs.View.{state}
 use Rattle.capacity.specs.declared.WriteWords.{WriteWords}

@@ -27,7 +27,7 @@ ghost use mathlib.Core.List.{List};
 ghost use Prim.Native.Nat.{ℕ};
 ghost use Rattle.access.specs.Access.{registersEnd, writeChecks};
 ghost use Rattle.access.specs.Checks.{first};
-ghost use Rattle.capacity_model.specs.Facts.{Ranges};
+ghost use Rattle.capacity_model.specs.View.{Ranges};
 ghost use Rattle.capacity_model.specs.Calls.{read, write};
 ghost use Rattle.capacity_model.specs.Model.{capabilities, register, writeAt, step};
 ghost use Rattle.capacity_masks.specs.View.{setupOf};

@@ -9,7 +9,7 @@ use tables::fill16;
 use tables::fill64;
 ghost use mathlib.Core.Path.{_≡_};
 ghost use lib.ListN.{length};
-ghost use Rattle.capacity_model.specs.Facts.{Ranges};
+ghost use Rattle.capacity_model.specs.View.{Ranges};
 ghost use Rattle.capacity_model.specs.Calls.{reset};
 ghost use Rattle.capacity_model.specs.Rules.{pairs, resetMasks};
 ghost use Rattle.capacity_model.specs.Model.{step};

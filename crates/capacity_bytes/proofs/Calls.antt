@@ -20,7 +20,7 @@ use Rattle.capacity_masks.specs.View.{setupOf}
 use Rattle.capacity_model.specs.Rules.{Setup, pairs}
 use Rattle.capacity_model.specs.Calls.{Call, reset, read, write, fill, evict, Answer, refused, done, value, allowed}
 use Rattle.capacity_model.specs.Claim.{isReset}
-use Rattle.capacity_model.specs.Facts.{Ranges, Sized}
+use Rattle.capacity_model.specs.View.{Ranges, Sized}
 use Rattle.capacity_model.specs.Model.{State, Outcome, wellFormed, stateChecks, step}
 use Rattle.capacity_model.proofs.Setup.{ranges}
 use Rattle.capacity_model.proofs.Steps.{accepting}

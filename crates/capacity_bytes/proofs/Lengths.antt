@@ -9,7 +9,7 @@ use Rattle.words.proofs.Parts.{table-length}
 use Rattle.tables.proofs.Tests.{and-l, and-r}
 use Rattle.replies.proofs.Laws.{by-lengths, passed}
 use Rattle.capacity_model.specs.Rules.{Setup, setupOk, pairs}
-use Rattle.capacity_model.specs.Facts.{Sized}
+use Rattle.capacity_model.specs.View.{Sized}
 use Rattle.capacity_bytes.specs.Bytes.{Lent, recordLength, bytesFit, byteRefusal}
 use Rattle.capacity_bytes.specs.View.{Long}
 

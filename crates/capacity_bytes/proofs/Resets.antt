@@ -13,7 +13,7 @@ use Rattle.replies.proofs.Laws as laws
 use Rattle.capacity_masks.proofs.Words.{reset-words, first-inside}
 use Rattle.capacity_model.specs.Rules.{Setup, pairs, allBlocks, resetMasks}
 use Rattle.capacity_model.specs.Calls.{reset, done}
-use Rattle.capacity_model.specs.Facts.{Ranges}
+use Rattle.capacity_model.specs.View.{Ranges}
 use Rattle.capacity_model.specs.Model.{State, step}
 use Rattle.capacity.specs.View.{outcome}
 use Rattle.capacity.proofs.Checks.{setup-passes}

@@ -9,7 +9,7 @@ use monitor_bytes::events_ok;
 use words::union64;
 ghost use mathlib.Core.Path.{_≡_};
 ghost use Rattle.words.specs.Words.{tableOf};
-ghost use Rattle.capacity_model.specs.Facts.{Ranges, Sized};
+ghost use Rattle.capacity_model.specs.View.{Ranges, Sized};
 ghost use Rattle.capacity_model.specs.Model.{wellFormed};
 ghost use Rattle.capacity_masks.specs.View.{setupOf};
 ghost use Rattle.capacity.specs.View.{state};

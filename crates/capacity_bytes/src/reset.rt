@@ -13,7 +13,7 @@ ghost use lib.ListN.{length};
 ghost use Rattle.words.specs.Words.{bytesOfAll};
 ghost use Rattle.replies.specs.Replies.{reply};
 ghost use Rattle.capacity_model.specs.Calls.{reset};
-ghost use Rattle.capacity_model.specs.Facts.{Ranges};
+ghost use Rattle.capacity_model.specs.View.{Ranges};
 ghost use Rattle.capacity_model.specs.Rules.{pairs, resetMasks};
 ghost use Rattle.capacity_masks.specs.View.{setupOf};
 ghost use Rattle.capacity_bytes.specs.Bytes.{stepBytes};

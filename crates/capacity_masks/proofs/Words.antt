@@ -8,7 +8,8 @@ use native.Mathlib.Omega.{arith}
 use lib.Dec.{leb, ltb, eqb, leb→le, le→leb, ltb→lt, lt→ltb, eqb→eq}
 use lib.ListN.{getD, set, drop, replicate}
 use lib.Pow.{pow-pos}
-use Rattle.tables.specs.Below.{unionBelow, allBelow, Small}
+use Rattle.tables.specs.Below.{allBelow}
+use Rattle.tables.specs.View.{unionBelow, Small}
 use Rattle.tables.proofs.Tests.{eqb-in, same-test}
 use Rattle.tables.proofs.Laws.{all-same, drop-replicate}
 use Rattle.tables.proofs.Union.{low-test, union-low}
@@ -48,11 +49,11 @@ masks-test su n f =
     ones-test k (unionBelow n f) ∙ sym (low-test k (unionBelow n f)) ∙ union-low k n f ∙ all-same n _ _ (λ i l. held-test su (f i))
 
 -- the operation of alloc_ctl on the table, from what each step gives of the mask of the pair that it names
-pub alloc-words : (su : Setup) (v operand mask st : ℕ) (f : AllocCtl) (x : AllocWords) (masks : List ℕ) → AllocFields (su .na) v f → Small (allocation.status (su .nr) (su .na) (eqb operand 0) v) 5 st
+pub alloc-words : (su : Setup) (v operand mask st : ℕ) (f : AllocCtl) (x : AllocWords) (masks : List ℕ) → AllocFields (su .na) v f → Small (allocation.operationStatus (su .nr) (su .na) (eqb operand 0) v) 5 st
     → x .ctl ≡ pack allocCtl (0 ∷ st ∷ f .rcid ∷ f .at ∷ f .op ∷ []) → x .operand ≡ cond (eqb (f .op) 2 && eqb st 1) mask operand → x .mask ≡ cond (eqb (f .op) 1 && eqb st 1) operand mask
     → mask ≡ getD masks (pair (su .na) (allocation.rcidOf v) (allocation.atOf (su .na) v)) 0
     → record { ctl = x .ctl; mask = x .operand; masks = set masks (pair (su .na) (allocation.rcidOf v) (allocation.atOf (su .na) v)) (x .mask) } ≡ writeAlloc su operand masks v
-unfolding writeAlloc allocation.allocWord badMask allocation.operandAfter allocation.tableAfter allocation.done wordAt
+unfolding writeAlloc allocation.allocWord badMask allocation.operandAfter allocation.tableAfter allocation.succeeds wordAt
 alloc-words su v operand mask st f x masks g s c o m e = rw (m, o, c, e, s .is, g .op-is, g .at-is, g .rcid-is, put-back) refl
 
 -- 0 everywhere, then every block for RCID 0

@@ -14,11 +14,12 @@ ghost use mathlib.Core.List.{List};
 ghost use Prim.Native.Nat.{ℕ, _<_};
 ghost use lib.ListN.{length, getD, set};
 ghost use lib.Dec.{eqb};
-ghost use Rattle.tables.specs.Below.{unionBelow, allBelow};
+ghost use Rattle.tables.specs.Below.{allBelow};
+ghost use Rattle.tables.specs.View.{unionBelow};
 ghost use Rattle.access.specs.Pairs.{pair};
 ghost use Rattle.allocation.specs.Allocation.{rcidOf, atOf};
 ghost use Rattle.capacity_model.specs.Rules.{maskOf, allBlocks, hasBlock};
-ghost use Rattle.capacity_model.specs.Facts.{Ranges};
+ghost use Rattle.capacity_model.specs.View.{Ranges};
 ghost use Rattle.capacity_model.specs.Model.{writeAlloc};
 ghost use Rattle.capacity_masks.specs.View.{setupOf, allocation};
 

@@ -3,10 +3,10 @@ use access::known_at;
 use access::place;
 ghost use mathlib.Core.Path.{_≡_};
 ghost use Prim.Native.Nat.{_<_};
-ghost use Rattle.tables.specs.Below.{Small};
+ghost use Rattle.tables.specs.View.{Small};
 ghost use Rattle.access.specs.Pairs.{pair, knownAt};
 ghost use Rattle.capacity_model.specs.Rules.{setupOk, pairs};
-ghost use Rattle.capacity_model.specs.Facts.{Ranges};
+ghost use Rattle.capacity_model.specs.View.{Ranges};
 ghost use Rattle.capacity_masks.specs.View.{setupOf};
 
 // NCBLKS, NR, NA, NM and W.

@@ -15,7 +15,7 @@ use Rattle.runs.specs.Claims.{controlAfter}
 use Rattle.runs.proofs.Settings as shared
 use Rattle.runs.proofs.Settings.{anew, none, sets-if, Settings}
 use Rattle.runs.proofs.Registers.{Parts, Registered, Agrees, Invariants, statusIn, monStatusIn}
-use Rattle.capacity_model.specs.Rules.{pairs, badMask, allocDone, limitOf}
+use Rattle.capacity_model.specs.Rules.{pairs, badMask, allocSucceeds, limitOf}
 use Rattle.capacity_model.specs.Calls.{Call, kindOf}
 use Rattle.capacity_model.specs.Model.{State, Allocation, registers, register, readAt, afterReset, writeAlloc, writeMask, writeAt, perform}
 use Rattle.capacity_model.specs.Rules.{Setup}
@@ -78,10 +78,10 @@ unfolding settingsBy writeAlloc writeMask tableAfter
 sets-call s =
     let su = s .setup in
     let mask = s .alloc .mask in
-    let made : ℕ → Bool → List (Setting ℕ) = λ v x. cond (x && allocDone su mask configLimit v) (limitOf su mask v ∷ []) [] in
+    let made : ℕ → Bool → List (Setting ℕ) = λ v x. cond (x && allocSucceeds su mask configLimit v) (limitOf su mask v ∷ []) [] in
     call-by s (λ k s′. Sets s s′ (onWrite k (λ size offset v. made v (access.writesLow offset access.allocCtl)) []) (isReset k)) (λ u. anew)
     (λ size offset v. write-by s (λ x y z t. Sets s t (made v x) false) size offset v
-    (sets-if _ _ _ _ s _ (limitOf su mask v) (allocDone su mask configLimit v) refl refl
+    (sets-if _ _ _ _ s _ (limitOf su mask v) (allocSucceeds su mask configLimit v) refl refl
     (λ d. let ok = done-pair (su .nr) (su .na) (badMask mask) v configLimit d in (ok .rcid-low, ok .at-low)))
     (none refl refl) (none refl refl) (none refl refl))
     (λ s′ k. none (k .setup) (ap (λ (a : Allocation). a .masks) (k .alloc)))

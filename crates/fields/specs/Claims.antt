@@ -1,12 +1,23 @@
 -- What is claimed of packing: where fields do not overlap, pack and unpack undo each other. The registers' fields do not.
 use mathlib.Core.Path.{_≡_}
-use mathlib.Core.List.{List}
-use Prim.Native.Nat.{ℕ}
+use mathlib.Core.List.{List, [], _∷_}
+use Prim.Native.Nat.{ℕ, _+_, _-_, _*_, _^_, _≤_}
 use lib.Bits.{bitAnd}
-use Rattle.fields.specs.Layout.{Place, Ordered, InRange, pack, unpack, named, Unpacked}
+use Rattle.fields.specs.Layout.{Place, pack, unpack}
 use Rattle.fields.specs.Registers as reg
+use Rattle.fields.specs.View.{InRange, Unpacked, ofAllocCtl, ofMonCtl, heldAllocCtl, heldMonCtl}
 use Rattle.fields.specs.declared.AllocCtl.{AllocCtl}
 use Rattle.fields.specs.declared.MonCtl.{MonCtl}
+
+-- each field ends at or below top, and the next one at or below this one's place: no two overlap
+abbrev pub Ordered : List Place → ℕ → Type 0
+Ordered [] top = Unit
+Ordered (f ∷ fs) top = (f .width + f .place ≤ top) × Ordered fs (f .place)
+
+-- the word whose named bits are all set
+abbrev pub named : List Place → ℕ
+named [] = 0
+named (f ∷ fs) = (2 ^ f .width - 1) * 2 ^ f .place + named fs
 
 -- no two fields overlap, all end at or below top, and these are the bits that they name
 pub record Register (fs : List Place) (top mask : ℕ) : Type 0 where
@@ -30,7 +41,7 @@ pub record Packing : Type 0 where
   pub capacityCapabilities : Register reg.capacityCapabilities 25 0x1ffffff
   pub counterSetting : Register reg.counterSetting 12 0xfff
   -- with NA = 1 the bits of AT and ATV are dropped too
-  pub allocCtl1 : (word : ℕ) (r : AllocCtl) → Unpacked reg.allocCtl word (reg.ofAllocCtl r)
-      → pack reg.allocCtl (reg.ofAllocCtl (reg.heldAllocCtl 1 r)) ≡ bitAnd word 0xff000fff1f
-  pub monCtl1 : (word : ℕ) (r : MonCtl) → Unpacked reg.monCtl word (reg.ofMonCtl r)
-      → pack reg.monCtl (reg.ofMonCtl (reg.heldMonCtl 1 r)) ≡ bitAnd word 0xff0fffff1f
+  pub allocCtl1 : (word : ℕ) (r : AllocCtl) → Unpacked reg.allocCtl word (ofAllocCtl r)
+      → pack reg.allocCtl (ofAllocCtl (heldAllocCtl 1 r)) ≡ bitAnd word 0xff000fff1f
+  pub monCtl1 : (word : ℕ) (r : MonCtl) → Unpacked reg.monCtl word (ofMonCtl r)
+      → pack reg.monCtl (ofMonCtl (heldMonCtl 1 r)) ≡ bitAnd word 0xff0fffff1f

@@ -6,7 +6,7 @@ use Prim.Native.Nat.{ℕ, zero, suc}
 use lib.Dec.{eqb}
 use lib.ListN.{getD, set, replicate, List·getD-map}
 use Rattle.tables.proofs.Laws.{at-set}
-use Rattle.monitor.specs.Monitor.{Monitor, cleared, configEvent, mcidOf, eventOf, monDone, writeMon, counted}
+use Rattle.monitor.specs.Monitor.{Monitor, cleared, configEvent, mcidOf, eventOf, monSucceeds, writeMon, counted}
 use Rattle.monitor.specs.Tally.{Counter, Tally, tallyStart, tallyMon, tallied}
 
 module _ {K : Type 0} (f : K → ℕ) where
@@ -69,9 +69,9 @@ module _ {U K : Type 0} (r : Counter U K) (Fits : U → K → Type 0) (u : U) (z
     tallied-counter i = rw (k .same) (counter-in i)
 
     pub tallied-write : (v : ℕ) → Tallied r Fits u (writeMon (r .na u) (r .nm u) (r .last) m v) (tallyMon r t v)
-    unfolding writeMon monDone tallyMon
+    unfolding writeMon monSucceeds tallyMon
     tallied-write v =
-        let starts = monDone (r .na u) (r .nm u) (r .last) configEvent v && not (eqb (eventOf v) 0) in
+        let starts = monSucceeds (r .na u) (r .nm u) (r .last) configEvent v && not (eqb (eventOf v) 0) in
         record {
           counts = cond starts (set (k .counts) (mcidOf v) (r .none)) (k .counts);
           same = rw (k .same, counter-in (mcidOf v)) refl;

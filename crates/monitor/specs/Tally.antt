@@ -1,6 +1,6 @@
 -- A tally of what each MCID counted, by calls and answers alone, in counts of any type.
 use Rattle.access.specs.Logic.{Bool, not, _&&_, List, ℕ, getD, set, replicate, if_then_else_, _==_, _‼_}
-use Rattle.monitor.specs.Monitor.{configEvent, readCounter, mcidOf, eventOf, monDone, settingOf}
+use Rattle.monitor.specs.Monitor.{configEvent, readCounter, mcidOf, eventOf, monSucceeds, settingOf}
 
 -- how a controller with a set-up of type U counts: NA, NM and its last event; nothing counted, and the counter of a count
 pub record Counter (U K : Type 0) : Type 0 where
@@ -28,7 +28,7 @@ module _ {U K : Type 0} (r : Counter U K) where
   unfoldable pub tallyMon : Tally U K → ℕ → Tally U K
   tallyMon t v =
       let na = r .na (t .setup) in
-      let ends : ℕ → Bool = λ op. monDone na (r .nm (t .setup)) (r .last) op v in
+      let ends : ℕ → Bool = λ op. monSucceeds na (r .nm (t .setup)) (r .last) op v in
       record {
         setup = t .setup;
         settings = if ends configEvent then set (t .settings) (mcidOf v) (settingOf na v) else t .settings;

@@ -6,7 +6,7 @@ ghost use mathlib.Core.Path.{_≡_};
 ghost use mathlib.Core.Bool.{not, cond, _&&_};
 ghost use mathlib.Core.List.{[], _∷_};
 ghost use lib.Dec.{leb, eqb};
-ghost use Rattle.tables.specs.Below.{Small};
+ghost use Rattle.tables.specs.View.{Small};
 ghost use Rattle.access.specs.Checks.{_gives_, first};
 ghost use Rattle.monitor.specs.Monitor.{configEvent, validOp, knownEvent, monStatus};
 ghost use Rattle.monitor.specs.Bytes as bytes;

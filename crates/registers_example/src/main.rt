@@ -9,8 +9,8 @@ use fields::CapacityCounter;
 use fields::CounterSetting;
 use fields::MonCtl;
 use libc::STDOUT_FILENO;
-ghost use Rattle.fields.specs.Layout.{InRange};
-ghost use Rattle.fields.specs.Registers.{allocCtl, monCtl, ofAllocCtl, ofMonCtl};
+ghost use Rattle.fields.specs.View.{InRange, ofAllocCtl, ofMonCtl};
+ghost use Rattle.fields.specs.Registers.{allocCtl, monCtl};
 
 const ALL: u64 = 0xffff_ffff_ffff_ffff;
 

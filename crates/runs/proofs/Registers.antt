@@ -11,7 +11,7 @@ use Rattle.access.specs.Checks.{Kind, resets, writes, other}
 use Rattle.access.specs.Access as access
 use Rattle.access.specs.Pairs.{wordAt, Setting}
 use Rattle.access.proofs.Pairs.{Stored}
-use Rattle.allocation.specs.Allocation.{configLimit, readLimit, opOf, rcidOf, atOf, allocWord, status, done, operandAfter}
+use Rattle.allocation.specs.Allocation.{configLimit, readLimit, opOf, rcidOf, atOf, allocWord, operationStatus, succeeds, operandAfter}
 use Rattle.allocation.proofs.Operations.{read-done}
 use Rattle.allocation.proofs.Read.{read-fields, read-sets}
 use Rattle.monitor.specs.Monitor.{monWord, monStatus}
@@ -37,7 +37,7 @@ pub record Parts (S U : Type 0) : Type 0 where
 
 module _ {S U : Type 0} (q : Parts S U) (s : S) (v : ℕ) where
   abbrev pub statusIn : ℕ
-  statusIn = status (q .nr (q .setup s)) (q .na (q .setup s)) (q .bad s v) v
+  statusIn = operationStatus (q .nr (q .setup s)) (q .na (q .setup s)) (q .bad s v) v
 
   abbrev pub monStatusIn : ℕ
   monStatusIn = monStatus (q .na (q .setup s)) (q .nm (q .setup s)) (q .last) v
@@ -67,7 +67,7 @@ pub record Agrees {S U C A L X : Type 0} (m : Machine S U C A) (q : Parts S U) (
   pub value : X
   pub sets : (size v : ℕ)
       → b .settingsBy l (m .write size 24 v)
-      ≡ cond (done (q .nr (q .setup s)) (q .na (q .setup s)) (q .bad s v) configLimit v) (record { rcid = rcidOf v; at = atOf (q .na (q .setup s)) v; value = value } ∷ []) []
+      ≡ cond (succeeds (q .nr (q .setup s)) (q .na (q .setup s)) (q .bad s v) configLimit v) (record { rcid = rcidOf v; at = atOf (q .na (q .setup s)) v; value = value } ∷ []) []
 
 -- ---- one call
 
@@ -106,7 +106,7 @@ module _ {S U C A : Type 0} {m : Machine S U C A} {q : Parts S U} (h : Registere
         let na = q .na (q .setup s) in
         let d = read-done nr na (q .bad s v) v o (record { rcid-low = rw er (k .rcid-low); at-low = rw ea (k .at-low) }) in
         ap (λ (x : Outcome S A). q .registers (x .state) .operand) (done-step (h .accepting) s (m .write size 24 v) t)
-        ∙ h .operand s size v ∙ cond-yes (done nr na (q .bad s v) readLimit v) _ (q .registers s .operand) d ∙ rw (er, ea) (k .word)
+        ∙ h .operand s size v ∙ cond-yes (succeeds nr na (q .bad s v) readLimit v) _ (q .registers s .operand) d ∙ rw (er, ea) (k .word)
 
 -- ---- settings
 

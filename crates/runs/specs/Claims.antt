@@ -7,7 +7,7 @@ use Rattle.access.specs.Refusals.{numberOf}
 use Rattle.access.specs.Checks.{Check, first, Kind, resets, writes, other, isReset, Rows}
 use Rattle.access.specs.Access as access
 use Rattle.access.specs.Pairs.{Setting, ofPair, anyOf}
-use Rattle.allocation.specs.Allocation.{configLimit, readLimit, opOf, rcidOf, atOf, statusOf, allocWord, validOp, status}
+use Rattle.allocation.specs.Allocation.{configLimit, readLimit, opOf, rcidOf, atOf, statusOf, allocWord, validOp, operationStatus}
 use Rattle.monitor.specs.Monitor as mon
 use Rattle.monitor.specs.Tally.{Counter, Tally}
 use Rattle.runs.specs.Runs.{Event, event, after, events, untouched, Keeper, Machine, stepOf, noteOf, noteAfter, Always}
@@ -156,7 +156,7 @@ module _ {S U C A L X : Type 0} (m : Machine S U C A) (b : Book S U C A L X) whe
 -- ---- STATUS: each under its own condition and no other, where the events of a controller end at last
 pub record Statuses (last : ℕ) : Type 0 where
   pub alloc : (nr na : ℕ) (bad : Bool) (v : ℕ)
-      → Rows (not (validOp (opOf v))) (nr ≤? rcidOf v) (na ≤? atOf na v) (opOf v == configLimit && bad) (status nr na bad v)
+      → Rows (not (validOp (opOf v))) (nr ≤? rcidOf v) (na ≤? atOf na v) (opOf v == configLimit && bad) (operationStatus nr na bad v)
   pub monitor : (na nm v : ℕ)
       → Rows (not (mon.validOp (mon.opOf v))) (nm ≤? mon.mcidOf v) (mon.opOf v == mon.configEvent && not (mon.knownEvent last (mon.eventOf v)))
       (mon.opOf v == mon.configEvent && mon.atvOf na v == 1 && na ≤? mon.atOf na v) (mon.monStatus na nm last v)

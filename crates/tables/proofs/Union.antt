@@ -10,7 +10,8 @@ use lib.Arith.{bin-ind}
 use lib.Bits.{bitOr, or-add-and, and-le-l, and-le-r, or-mod, or-shr, or-step, or-zero-l, or-zero-r}
 use lib.Dec.{T, eqb, eqb·suc-zero, eqb→eq, ltb, ltb→lt, lt→ltb}
 use lib.Pow.{pow-pos}
-use Rattle.tables.specs.Below.{unionBelow, allBelow}
+use Rattle.tables.specs.Below.{allBelow}
+use Rattle.tables.specs.View.{unionBelow}
 use Rattle.tables.proofs.Tests.{eqb-in, same-test}
 use Rattle.tables.proofs.Laws.{all-at, all-in}
 

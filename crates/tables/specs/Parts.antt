@@ -1,7 +1,7 @@
 -- A part of a table, and a table with a part replaced: what `&t[a..e]` sees and what `&mut t[a..e]` leaves.
 use mathlib.Core.Path.{_≡_}
 use mathlib.Core.List.{List, _++_}
-use Prim.Native.Nat.{ℕ, _+_, _-_, _*_, _≤_, _<_}
+use Prim.Native.Nat.{ℕ, _-_, _*_, _≤_, _<_}
 use lib.ListN.{take, drop}
 
 -- the n entries from a on
@@ -15,9 +15,6 @@ withPart a n t u = take a t ++ (u ++ drop n (drop a t))
 -- the words of an RCID, one for each AT
 abbrev pub row : ℕ → List ℕ → ℕ → List ℕ
 row na t rcid = part (rcid * na) na t
-
-abbrev pub withRow : ℕ → List ℕ → ℕ → List ℕ → List ℕ
-withRow na t rcid u = withPart (rcid * na) na t u
 
 -- where an RCID's words begin and end; an RCID that is not there has none
 pub record RowAt (nr na rcid from to : ℕ) : Type 0 where

@@ -81,11 +81,6 @@ module _ (k n : ℕ) (bs : List ℕ) (z : 0 < k) (e : length bs ≡ n * k) where
   unfolding tableOf
   table-held b = record { words-are = refl; bytes-are = rw number (sym (bytes-words k n bs e (below-all 256 bs b))) }
 
-  -- the word at i
-  pub table-at : (i : ℕ) → i < n → getD (tableOf k bs) i 0 ≡ wordOf (take k (drop (i * k) bs))
-  unfolding tableOf
-  table-at i h = word-at k (length bs / k) i bs (rw number h)
-
 -- a table of bytes by its length alone
 module _ (k : ℕ) (bs : List ℕ) where
   pub entries : length (tableOf k bs) ≡ length bs / k

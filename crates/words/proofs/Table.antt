@@ -7,7 +7,7 @@ use native.Mathlib.Omega.{arith}
 use lib.ListN.{length, take, drop, getD, set, replicate, replicate-append-replicate, length-append, length-drop, take-append-drop, drop-of-length-le}
 use lib.Seq.{length-take-le, drop-drop, take-at, drop-at, set-split, drop-cons}
 use Rattle.words.specs.Words.{wordOf, bytesOf, wordsOf, bytesOfAll, stored, Below}
-use Rattle.words.proofs.Word.{length-bytes, stored-at, word-bytes, bytes-word, word-below}
+use Rattle.words.proofs.Word.{length-bytes, stored-at, bytes-word, word-below}
 
 -- ---- lengths
 
@@ -85,12 +85,6 @@ below-drop m zero xs b = b
 below-drop m (suc k) [] b = tt
 below-drop m (suc k) (x ∷ xs) b = below-drop m k xs (b .1)
 
--- what it says of each entry
-pub below-at : (m : ℕ) (xs : List ℕ) → Below m xs → (i : ℕ) → i < length xs → getD xs i 0 < m
-below-at m [] b i h = absurd (omega arith)
-below-at m (x ∷ xs) b zero h = b .0
-below-at m (x ∷ xs) b (suc i) h = below-at m xs (b .1) i (omega arith)
-
 -- each decoded word is below 256 ^ k
 pub words-below : (k n : ℕ) (bs : List ℕ) → Below 256 bs → Below (256 ^ k) (wordsOf k n bs)
 unfolding wordsOf
@@ -110,11 +104,3 @@ bytes-words k (suc n) bs e b =
     let first : bytesOf k (wordOf (take k bs)) ≡ take k bs = ap (λ (m : ℕ). bytesOf m (wordOf (take k bs))) (sym l) ∙ bytes-word (take k bs) (below-take 256 k bs b) in
     let rest : length (drop k bs) ≡ n * k = rw length-drop (omega (arith, suc-mul n k)) in
     rw (first, bytes-words k n (drop k bs) rest (below-drop 256 k bs b), take-append-drop)
-
--- the words of the bytes of words
-pub words-bytes : (k : ℕ) (ws : List ℕ) → Below (256 ^ k) ws → wordsOf k (length ws) (bytesOfAll k ws) ≡ ws
-unfolding wordsOf bytesOfAll
-words-bytes k [] b = refl
-words-bytes k (w ∷ ws) b =
-    let l : length (bytesOf k w) ≡ k = length-bytes k w in
-    rw (take-at (bytesOf k w), drop-at (bytesOf k w), word-bytes k w (b .0), words-bytes k ws (b .1))

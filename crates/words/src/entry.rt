@@ -4,7 +4,7 @@ use crate::load32;
 use crate::load64;
 ghost use mathlib.Core.Path.{_≡_};
 ghost use lib.ListN.{length, getD};
-ghost use Rattle.tables.specs.Below.{unionBelow};
+ghost use Rattle.tables.specs.View.{unionBelow};
 ghost use Rattle.words.specs.Words.{tableOf};
 
 pub fn word16(b: &[u8], i: usize) -> u16

@@ -9,7 +9,7 @@ use borrow.Author.Needs.{needs}
 use Rattle.fields.specs.Layout.{pack}
 use Rattle.fields.specs.Registers.{allocCtl}
 use Rattle.fields.specs.declared.AllocCtl.{AllocCtl}
-use Rattle.allocation.specs.Allocation.{allocWord, status, done, tableAfter}
+use Rattle.allocation.specs.Allocation.{allocWord, operationStatus, succeeds, tableAfter}
 use Rattle.allocation.specs.View.{AllocFields}
 use Rattle.bandwidth_model.specs.Rules.{Setup, storedForm}
 use Rattle.bandwidth_settings.specs.View.{allocation}
@@ -19,10 +19,10 @@ use Rattle.bandwidth_settings.proofs.write_row.Tie as tie
 
 -- the write over what the callees give
 steps : (su : Setup) (sum bw v st old word ctl new : ℕ) (row left : List ℕ) (bad : Bool) (f : AllocCtl) → AllocFields (su .na) v f → bad ≡ badOperandIn su sum row (f .at) bw
-    → st ≡ status (su .nr) (su .na) bad v → old ≡ getD row (f .at) 0 → word ≡ storedForm bw → left ≡ cond (eqb (f .op) 1 && eqb st 1) (set row (f .at) word) row
+    → st ≡ operationStatus (su .nr) (su .na) bad v → old ≡ getD row (f .at) 0 → word ≡ storedForm bw → left ≡ cond (eqb (f .op) 1 && eqb st 1) (set row (f .at) word) row
     → ctl ≡ pack allocCtl (0 ∷ st ∷ f .rcid ∷ f .at ∷ f .op ∷ []) → new ≡ cond (eqb (f .op) 2 && eqb st 1) old bw
     → allocation ctl new left ≡ writeRow su sum bw row v
-unfolding writeRow allocWord tableAfter done
+unfolding writeRow allocWord tableAfter succeeds
 steps su sum bw v st old word ctl new row left bad f h e₁ e₂ e₃ e₄ e₅ e₆ e₇ = cc (h .rcid-is, h .at-is, h .op-is)
 
 returns : tie.Need-returns

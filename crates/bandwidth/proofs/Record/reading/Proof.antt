@@ -1,7 +1,7 @@
 -- `bandwidth::Record::reading` meets its contract.
 use mathlib.Core.Path.{refl, sym, ap, _∙_}
 use borrow.Author.Needs.{needs}
-use Rattle.access.specs.Refusals.{verdictOf}
+use Rattle.access.specs.View.{verdictOf}
 use Rattle.bandwidth_model.specs.Model.{readAt}
 use Rattle.bandwidth.proofs.Calls.{read-refused, read-done}
 use Rattle.bandwidth.proofs.Record.reading.Statement.{statement}

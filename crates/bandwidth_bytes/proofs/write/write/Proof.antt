@@ -1,7 +1,7 @@
 -- `bandwidth_bytes::write::write` meets its contract.
 use mathlib.Core.Path.{sym, ap, _∙_}
 use borrow.Author.Needs.{needs}
-use Rattle.access.specs.Refusals.{verdictOf}
+use Rattle.access.specs.View.{verdictOf}
 use Rattle.bandwidth_model.specs.Calls.{write}
 use Rattle.bandwidth_bytes.specs.Bytes.{pointers}
 use Rattle.bandwidth_bytes.proofs.Calls.{passed-of, failed-of, write-refused, written}

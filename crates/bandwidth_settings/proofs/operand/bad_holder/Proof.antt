@@ -8,7 +8,8 @@ use lib.Dec.{ltb, eqb}
 use lib.ListN.{getD}
 use borrow.Author.Needs.{needs}
 use Rattle.fields.specs.Layout.{unpack}
-use Rattle.fields.specs.Registers.{bwAlloc, ofBwAlloc}
+use Rattle.fields.specs.Registers.{bwAlloc}
+use Rattle.fields.specs.View.{ofBwAlloc}
 use Rattle.fields.specs.declared.BwAlloc.{BwAlloc}
 use Rattle.bandwidth_model.specs.Rules.{Setup, rbwbOf, reserved}
 use Rattle.bandwidth_settings.specs.Rows.{badHolderIn}

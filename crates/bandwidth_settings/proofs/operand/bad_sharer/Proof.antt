@@ -7,7 +7,8 @@ use lib.Dec.{leb, eqb}
 use lib.ListN.{getD}
 use borrow.Author.Needs.{needs}
 use Rattle.fields.specs.Layout.{unpack}
-use Rattle.fields.specs.Registers.{bwAlloc, ofBwAlloc}
+use Rattle.fields.specs.Registers.{bwAlloc}
+use Rattle.fields.specs.View.{ofBwAlloc}
 use Rattle.fields.specs.declared.BwAlloc.{BwAlloc}
 use Rattle.tables.specs.Below.{anyBelow}
 use Rattle.bandwidth_model.specs.Rules.{Setup, sharedAtOf, isHolder}

@@ -4,7 +4,7 @@ use Prim.Native.Nat.{_+_, _≤_, _-_}
 use native.Mathlib.Omega.{arith}
 use borrow.Author.Needs.{needs}
 use lib.ListN.{getD}
-use Rattle.tables.specs.Below.{unionBelow}
+use Rattle.tables.specs.View.{unionBelow}
 use Rattle.bandwidth_wellformed.specs.Bits.{firstBits}
 use Rattle.tables.proofs.Union.{union-none, union-next}
 use Rattle.bandwidth_wellformed.proofs.rows.first_bits.Statement.{statement}

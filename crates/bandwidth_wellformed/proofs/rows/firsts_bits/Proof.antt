@@ -4,7 +4,7 @@ use Prim.Native.Nat.{ℕ, _+_, _*_, _≤_, _-_}
 use native.Mathlib.Nat.{zero-mul}
 use native.Mathlib.Omega.{arith}
 use borrow.Author.Needs.{needs}
-use Rattle.tables.specs.Below.{unionBelow}
+use Rattle.tables.specs.View.{unionBelow}
 use Rattle.tables.proofs.Parts.{row-inside}
 use Rattle.tables.proofs.Union.{union-none, union-next}
 use Rattle.bandwidth_wellformed.specs.Bits.{firstBits}

@@ -3,7 +3,7 @@ use mathlib.Core.Path.{_≡_, sym}
 use Prim.Native.Nat.{_≤_, _-_}
 use native.Mathlib.Omega.{arith}
 use borrow.Author.Needs.{needs}
-use Rattle.tables.specs.Below.{unionBelow}
+use Rattle.tables.specs.View.{unionBelow}
 use Rattle.bandwidth_wellformed.specs.Bits.{markAt, lacking}
 use Rattle.tables.proofs.Union.{union-none, union-next}
 use Rattle.bandwidth_wellformed.proofs.Bits.{or-ge-r}

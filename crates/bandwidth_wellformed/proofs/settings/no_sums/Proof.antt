@@ -2,7 +2,7 @@
 use mathlib.Core.Path.{sym, ap, _∙_}
 use Prim.Native.Nat.{ℕ}
 use native.Mathlib.Nat.{zero-mul}
-use Rattle.tables.specs.Below.{unionBelow}
+use Rattle.tables.specs.View.{unionBelow}
 use Rattle.tables.proofs.Union.{union-none}
 use Rattle.bandwidth_wellformed.specs.Bits.{overAt}
 use Rattle.bandwidth_wellformed.proofs.Passes.{none-summed}

@@ -4,7 +4,7 @@ use Prim.Native.Nat.{_≤_, _-_}
 use native.Mathlib.Omega.{arith}
 use borrow.Author.Needs.{needs}
 use lib.ListN.{length}
-use Rattle.tables.specs.Below.{unionBelow}
+use Rattle.tables.specs.View.{unionBelow}
 use Rattle.tables.proofs.Union.{union-none, union-next}
 use Rattle.bandwidth_wellformed.specs.Bits.{blocksAt, overAt}
 use Rattle.bandwidth_wellformed.proofs.usage.over_exactly.Statement.{statement}

@@ -1,7 +1,7 @@
 -- `capacity::Record::check` meets its contract.
 use mathlib.Core.Path.{sym, ap, _∙_}
 use borrow.Author.Needs.{needs}
-use Rattle.access.specs.Refusals.{verdictOf}
+use Rattle.access.specs.View.{verdictOf}
 use Rattle.access.proofs.Refusals.{number-pos}
 use Rattle.capacity_model.proofs.Setup.{ranges}
 use Rattle.capacity.proofs.Checks.{setup-passed, lengths-passed, state-failed, state-judged}

@@ -1,7 +1,7 @@
 -- `capacity::Record::evict` meets its contract.
 use borrow.Author.Needs.{needs}
 use mathlib.Core.Path.{sym, ap, _∙_}
-use Rattle.access.specs.Refusals.{verdictOf}
+use Rattle.access.specs.View.{verdictOf}
 use Rattle.capacity_model.specs.Calls.{evict}
 use Rattle.capacity.proofs.Calls.{call-failed}
 use Rattle.capacity.proofs.Record.evict.Statement.{statement}

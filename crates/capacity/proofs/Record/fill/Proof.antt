@@ -1,7 +1,7 @@
 -- `capacity::Record::fill` meets its contract.
 use borrow.Author.Needs.{needs}
 use mathlib.Core.Path.{sym, ap, _∙_}
-use Rattle.access.specs.Refusals.{verdictOf}
+use Rattle.access.specs.View.{verdictOf}
 use Rattle.access.specs.Pairs.{wordAt}
 use Rattle.capacity_model.specs.Calls.{fill}
 use Rattle.capacity.proofs.Checks.{passes, counter-low}

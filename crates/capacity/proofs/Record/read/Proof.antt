@@ -1,7 +1,7 @@
 -- `capacity::Record::read` meets its contract.
 use borrow.Author.Needs.{needs}
 use mathlib.Core.Path.{sym, ap, _∙_}
-use Rattle.access.specs.Refusals.{verdictOf}
+use Rattle.access.specs.View.{verdictOf}
 use Rattle.capacity_model.specs.Calls.{read}
 use Rattle.capacity.proofs.Checks.{passes}
 use Rattle.capacity.proofs.Calls.{call-failed}

@@ -3,7 +3,7 @@ use mathlib.Core.Path.{sym, ap, _∙_}
 use Prim.Native.Nat.{ℕ}
 use lib.ListN.{replicate}
 use borrow.Author.Needs.{needs}
-use Rattle.access.specs.Refusals.{verdictOf}
+use Rattle.access.specs.View.{verdictOf}
 use Rattle.capacity_model.proofs.Setup.{ranges}
 use Rattle.capacity.proofs.Checks.{setup-passed, lengths-passed}
 use Rattle.capacity.proofs.Calls.{reset-refused, reset-performed}

@@ -3,7 +3,7 @@ use mathlib.Core.Path.{sym, _∙_}
 use native.Mathlib.Omega.{arith}
 use borrow.Author.Needs.{needs}
 use Rattle.tables.proofs.Tests.{of-true}
-use Rattle.capacity_model.specs.Facts.{Ranges}
+use Rattle.capacity_model.specs.View.{Ranges}
 use Rattle.capacity_model.proofs.Setup.{ranges}
 use Rattle.capacity_masks.specs.View.{setupOf}
 use Rattle.capacity_bytes.specs.Bytes.{bytesFit}
