@@ -67,27 +67,27 @@ fn sum_loaded(
     sum_rows(a, c, u, rows, na, q)
 }
 
-// The rows of one part, with arrays that a part fits in; one that is all 0 is passed over.
+// The rows of one part; one that is all 0 is passed over.
 fn sum_part(
     active: &[u8],
     configured: &[u8],
     used: &[u8],
     from: usize,
-    a: &mut [u32],
-    c: &mut [u32],
-    u: &mut [u32],
     n: usize,
     rows: usize,
     na: u32,
     q: u32,
 ) -> Sums
-    requires { ⌜ PartIn (now active) (now configured) (now used) from n × (((n ≤ 64) × Loads 64 (now a) (now c) (now u))
+    requires { ⌜ PartIn (now active) (now configured) (now used) from n × ((n ≤ 64)
         × Rows na q rows (part from n (tableOf 4 (now active))) (part from n (tableOf 4 (now configured))) (part from n (tableOf 4 (now used)))) ⌝ }
     ensures { λ r. ⌜ Summed na q (part from n (tableOf 4 (now (active .entry)))) (part from n (tableOf 4 (now (configured .entry)))) (part from n (tableOf 4 (now (used .entry)))) rows r ⌝ }
 {
     if zero_part(active, configured, used, from, n) {
         return no_sums();
     }
+    let mut a = [0u32; 64];
+    let mut c = [0u32; 64];
+    let mut u = [0u32; 64];
     sum_loaded(
         active,
         configured,
@@ -103,19 +103,9 @@ fn sum_part(
     )
 }
 
-// All rows, part by part, with arrays for the words of one.
-fn sum_parts(
-    active: &[u8],
-    configured: &[u8],
-    used: &[u8],
-    a: &mut [u32],
-    c: &mut [u32],
-    u: &mut [u32],
-    nr: usize,
-    na: u32,
-    q: u32,
-) -> Sums
-    requires { ⌜ PartIn (now active) (now configured) (now used) 0 (nr * na) × (Loads 64 (now a) (now c) (now u) × Rows na q nr (tableOf 4 (now active)) (tableOf 4 (now configured)) (tableOf 4 (now used))) ⌝ }
+// All rows, part by part.
+pub fn sum_bytes(active: &[u8], configured: &[u8], used: &[u8], nr: usize, na: u32, q: u32) -> Sums
+    requires { ⌜ PartIn (now active) (now configured) (now used) 0 (nr * na) × Rows na q nr (tableOf 4 (now active)) (tableOf 4 (now configured)) (tableOf 4 (now used)) ⌝ }
     ensures { λ r. ⌜ Summed na q (tableOf 4 (now (active .entry))) (tableOf 4 (now (configured .entry))) (tableOf 4 (now (used .entry))) nr r ⌝ }
 {
     let mut sums = no_sums();
@@ -128,9 +118,6 @@ fn sum_parts(
             configured,
             used,
             s.from,
-            a,
-            c,
-            u,
             s.to - s.from,
             next - r,
             na,
@@ -140,15 +127,4 @@ fn sum_parts(
         r = next;
     }
     sums
-}
-
-// The same, with the arrays.
-pub fn sum_bytes(active: &[u8], configured: &[u8], used: &[u8], nr: usize, na: u32, q: u32) -> Sums
-    requires { ⌜ PartIn (now active) (now configured) (now used) 0 (nr * na) × Rows na q nr (tableOf 4 (now active)) (tableOf 4 (now configured)) (tableOf 4 (now used)) ⌝ }
-    ensures { λ r. ⌜ Summed na q (tableOf 4 (now (active .entry))) (tableOf 4 (now (configured .entry))) (tableOf 4 (now (used .entry))) nr r ⌝ }
-{
-    let mut a = [0u32; 64];
-    let mut c = [0u32; 64];
-    let mut u = [0u32; 64];
-    sum_parts(active, configured, used, &mut a, &mut c, &mut u, nr, na, q)
 }

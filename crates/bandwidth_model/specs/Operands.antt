@@ -86,7 +86,7 @@ sharers =
     ∷ operand 0 3 (sharing 0 + 0xffff) (false ∷ false ∷ false ∷ false ∷ []) false
     ∷ []
 
--- the table is well formed, and each case's clauses and result are as told
+-- the table is well formed, and each case's clauses and result are as it says
 pub record Operands : Type 0 where
   pub formed : tableOk board table ≡ true
   pub held : map (asHolder table) holders ≡ holders

@@ -25,7 +25,7 @@ use Rattle.capacity_model.specs.View.{Sized}
 use Rattle.capacity_model.specs.Model.{State, allocationOk, wellFormed, lengthsOk, setupChecks, stateChecks, blockChecks}
 use Rattle.capacity_model.proofs.Setup.{ranges}
 use Rattle.capacity_model.proofs.Steps.{Passing}
-use Rattle.capacity.specs.Checked.{Passes, Named, TablesJudged}
+use Rattle.capacity.specs.Checked.{Passes, Named, TablesTested}
 
 -- ---- checks 1 and 2
 
@@ -56,9 +56,9 @@ module _ (s : State) where
   pub state-failed : (n : ℕ) → 0 < n → n ≡ first (setupChecks (s .setup) s) 0 → n ≡ first (stateChecks s) 0
   state-failed n h e = sym (state-first ∙ first-other (setupChecks (s .setup) s) n _ h (sym e))
 
-  pub state-judged : 0 ≡ first (setupChecks (s .setup) s) 0 → (b : Bool) → b ≡ wellFormed s → cond b 0 3 ≡ first (stateChecks s) 0
+  pub state-tested : 0 ≡ first (setupChecks (s .setup) s) 0 → (b : Bool) → b ≡ wellFormed s → cond b 0 3 ≡ first (stateChecks s) 0
   unfolding access.setupChecks
-  state-judged e b q = sym (state-first ∙ first-passes (setupChecks (s .setup) s) _ tt e ∙ rw (← q) (turned b))
+  state-tested e b q = sym (state-first ∙ first-passes (setupChecks (s .setup) s) _ tt e ∙ rw (← q) (turned b))
     where
       turned : (b : Bool) → _≡_ {A = ℕ} (cond (not b) 3 0) (cond b 0 3)
       turned true = refl
@@ -90,7 +90,7 @@ module _ (s : State) where
       let v = s .monitor .value in
       eq-eqb v (namedBits reg.capacityCounter v) (named-all reg.capacityCounter capacityCounter-kept v h)
 
-  pub well-formed-is : {m k e : Bool} → TablesJudged (s .setup) (s .alloc .masks) (s .monitor .counters) (s .monitor .events) m k e → s .monitor .value < 2 ^ 64 → (a b c : Bool)
+  pub well-formed-is : {m k e : Bool} → TablesTested (s .setup) (s .alloc .masks) (s .monitor .counters) (s .monitor .events) m k e → s .monitor .value < 2 ^ 64 → (a b c : Bool)
       → a ≡ controlOk (s .setup .na) (s .alloc .ctl) → b ≡ eqb (s .alloc .mask) (maskOf (s .setup) (s .alloc .mask))
       → c ≡ eqb (s .monitor .ctl) (monWord (s .setup .na) (s .monitor .ctl) 0 (statusOf (s .monitor .ctl))) → (a && b && m && (c && k && e)) ≡ wellFormed s
   unfolding wellFormed allocationOk monitorOk

@@ -34,7 +34,7 @@ abbrev pub Passed : State → Type 0
 Passed s = 0 ≡ first (stateChecks s) 0
 
 -- the tables have their lengths, and m, k and e say whether all masks, counters and settings are well formed
-pub record TablesJudged (su : Setup) (masks counters events : List ℕ) (m k e : Bool) : Type 0 where
+pub record TablesTested (su : Setup) (masks counters events : List ℕ) (m k e : Bool) : Type 0 where
   pub sized : Sized su masks counters events
   pub masks-are : m ≡ allBelow (length masks) (λ i. eqb (getD masks i 0) (maskOf su (getD masks i 0)))
   pub counters-are : k ≡ allBelow (length counters) (λ i. counterOk reg.capacityCounter reg.capacityCtr (su .w) (getD counters i 0))

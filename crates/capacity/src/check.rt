@@ -17,7 +17,7 @@ ghost use Rattle.capacity_model.specs.View.{Ranges, Sized};
 ghost use Rattle.capacity_model.specs.Model.{lengthsOk, wellFormed, setupChecks, stateChecks};
 ghost use Rattle.capacity_masks.specs.View.{setupOf};
 ghost use Rattle.capacity.specs.View.{state, before};
-ghost use Rattle.capacity.specs.Checked.{TablesJudged};
+ghost use Rattle.capacity.specs.Checked.{TablesTested};
 
 // The highest EVT_ID that the capacity controller knows.
 pub const LAST_EVENT: u16 = 1;
@@ -36,7 +36,7 @@ impl Record {
     // Check 3, by whether the words of each table are well formed.
     pub fn judge(self, masks: bool, counters: bool, events: bool) -> bool
         requires { ⌜ Ranges (setupOf (self .setup)) ⌝ }
-        ensures { λ r. ⌜ ((ms ns es : List ℕ) → TablesJudged (setupOf (self .setup)) ms ns es masks counters events → r ≡ wellFormed (state self ms ns es)) ⌝ }
+        ensures { λ r. ⌜ ((ms ns es : List ℕ) → TablesTested (setupOf (self .setup)) ms ns es masks counters events → r ≡ wellFormed (state self ms ns es)) ⌝ }
     {
         let setup = self.setup;
         let allocation = control_ok(setup.na, self.alloc_ctl)

@@ -28,7 +28,7 @@ use Rattle.capacity.specs.declared.Record.{Record}
 use Rattle.capacity.specs.declared.WriteWords.{WriteWords}
 use Rattle.capacity.specs.View.{state, outcome, ackOf}
 use Rattle.capacity.specs.Checked.{pairOf, wrote}
-use Rattle.capacity.proofs.Checks.{setup-passes, state-judged}
+use Rattle.capacity.proofs.Checks.{setup-passes, state-tested}
 use Rattle.capacity.proofs.Calls.{call-failed}
 use Rattle.capacity_bytes.specs.Bytes.{Lent, lent, stateOf, lentOf, Reply, pointers, replyTo, setupFor, byteRefusal, stepBytes}
 use Rattle.capacity_bytes.specs.View.{numberIn, valuesIn, wordsIn, stateIn, HeldIn, Checked}
@@ -79,16 +79,16 @@ module _ (l : Lent) (r : Record) (w : wordsIn r ≡ wordsOf 8 9 (l .«record»))
 
   -- check 3
   module _ (b : Bool) (j : b ≡ wellFormed (stateIn l r)) where
-    judged : cond b 0 3 ≡ first (stateChecks (stateIn l r)) 0
-    judged = state-judged (stateIn l r) (setup-passes su (stateIn l r) (in-range su l held-none) held-sized) b j
+    tested : cond b 0 3 ≡ first (stateChecks (stateIn l r)) 0
+    tested = state-tested (stateIn l r) (setup-passes su (stateIn l r) (in-range su l held-none) held-sized) b j
 
-    pub judged-failed : b ≡ false → (c : Call) → T (not (isReset c)) → refusal 3 (pointers c) l ≡ stepBytes l c
-    judged-failed e c t =
-        taken l r state-held z c t (outcome (refused 3) (stateIn l r)) (call-failed (stateIn l r) c t why.State (ap (λ (x : Bool). cond x 0 3) (sym e) ∙ judged)) (refusal 3 (pointers c) l) refl
+    pub tested-failed : b ≡ false → (c : Call) → T (not (isReset c)) → refusal 3 (pointers c) l ≡ stepBytes l c
+    tested-failed e c t =
+        taken l r state-held z c t (outcome (refused 3) (stateIn l r)) (call-failed (stateIn l r) c t why.State (ap (λ (x : Bool). cond x 0 3) (sym e) ∙ tested)) (refusal 3 (pointers c) l) refl
 
-    pub judged-passed : b ≡ true → ((i : ℕ) → getD (l .«record») i 0 < 256) → ((i : ℕ) → getD (l .masks) i 0 < 256) → ((i : ℕ) → getD (l .counters) i 0 < 256)
+    pub tested-passed : b ≡ true → ((i : ℕ) → getD (l .«record») i 0 < 256) → ((i : ℕ) → getD (l .masks) i 0 < 256) → ((i : ℕ) → getD (l .counters) i 0 < 256)
         → ((i : ℕ) → getD (l .events) i 0 < 256) → HeldIn l r
-    judged-passed e lr lm lc le =
+    tested-passed e lr lm lc le =
         let g = long su l held-none in
         record {
           record-held = words.held 8 (lit< tt) (l .«record») (wordsIn r) (wordsIn r) (sym (g .record-long)) lr w;
@@ -97,7 +97,7 @@ module _ (l : Lent) (r : Record) (w : wordsIn r ≡ wordsOf 8 9 (l .«record»))
           events-held = table-held 2 (su .nm) (l .events) (lit< tt) (g .events-long) le;
           state-is = state-held;
           none = z;
-          passed = ap (λ (x : Bool). cond x 0 3) (sym e) ∙ judged;
+          passed = ap (λ (x : Bool). cond x 0 3) (sym e) ∙ tested;
         }
 
 -- ---- a call in a state that passes checks 1 to 3

@@ -2,7 +2,7 @@
 use borrow.Author.Needs.{needs}
 use mathlib.Core.Path.{sym, _∙_}
 use Rattle.capacity_bytes.proofs.Lengths.{long}
-use Rattle.capacity_bytes.proofs.Calls.{refused-12, held-ranges, held-sized, judged-passed, judged-failed}
+use Rattle.capacity_bytes.proofs.Calls.{refused-12, held-ranges, held-sized, tested-passed, tested-failed}
 use Rattle.capacity_bytes.proofs.check.checked.Statement.{statement}
 use Rattle.capacity_bytes.proofs.check.checked.Tie as tie
 
@@ -22,13 +22,13 @@ returns-2 : tie.Need-returns-2
 returns-2 c =
     let z = sym (c .before .before .before .before .record-refusal .ensures) ∙ c .before .before .before .if1 .left in
     let s = c .before .before .before .before .before in
-    judged-passed _ _ (c .before .before .load-record .ensures) z _ (c .before .well-formed .ensures) (c .if2 .taken) (λ i. s .before .before .before .shared-slice-known .given i .fits)
+    tested-passed _ _ (c .before .before .load-record .ensures) z _ (c .before .well-formed .ensures) (c .if2 .taken) (λ i. s .before .before .before .shared-slice-known .given i .fits)
     (λ i. s .before .before .shared-slice-known2 .given i .fits) (λ i. s .before .shared-slice-known3 .given i .fits) (λ i. s .shared-slice-known4 .given i .fits)
 
 returns-3 : tie.Need-returns-3
 returns-3 c =
     let z = sym (c .before .before .before .before .record-refusal .ensures) ∙ c .before .before .before .if1 .left in
-    judged-failed _ _ (c .before .before .load-record .ensures) z _ (c .before .well-formed .ensures) (c .if2 .left)
+    tested-failed _ _ (c .before .before .load-record .ensures) z _ (c .before .well-formed .ensures) (c .if2 .left)
 
 pub checked-spec : {M : Type 1} → statement M
 checked-spec = tie.close (tie.spec (λ c κs. search needs) returns load-record-requires well-formed-requires returns-2 returns-3)
