@@ -3,6 +3,7 @@
 use access::Ack;
 use access::Reading;
 use access::Refusal;
+use access::refusal_number;
 use capacity::Filling;
 use capacity::Record;
 use capacity_masks::Setup;
@@ -41,19 +42,8 @@ fn hex(lead: &[u8], word: u64) {
     io::print_hex(STDOUT_FILENO, word, 16);
 }
 
-// The number of a refusal (rules R1 to R8).
 fn refused(why: Refusal) {
-    let n = match why {
-        Refusal::Setup => 1,
-        Refusal::Length => 2,
-        Refusal::State => 3,
-        Refusal::Size => 4,
-        Refusal::Offset => 5,
-        Refusal::Value => 6,
-        Refusal::Identifier => 7,
-        Refusal::Block => 8,
-    };
-    number(b" refused ", n);
+    number(b" refused ", refusal_number(why));
     text(b"\n");
 }
 

@@ -40,6 +40,8 @@ pub record Packing : Type 0 where
   pub bandwidthCapabilities : Register reg.bandwidthCapabilities 48 0xffff00ffffff
   pub capacityCapabilities : Register reg.capacityCapabilities 25 0x1ffffff
   pub counterSetting : Register reg.counterSetting 12 0xfff
+  pub iommuQosid : Register reg.iommuQosid 28 0xfff0fff
+  pub dcTa : Register reg.dcTa 64 0xffff_ff00_0000_0000
   -- with NA = 1 the bits of AT and ATV are dropped too
   pub allocCtl1 : (word : ℕ) (r : AllocCtl) → Unpacked reg.allocCtl word (ofAllocCtl r)
       → pack reg.allocCtl (ofAllocCtl (heldAllocCtl 1 r)) ≡ bitAnd word 0xff000fff1f

@@ -12,6 +12,8 @@ use Rattle.fields.specs.declared.CapacityCounter.{CapacityCounter}
 use Rattle.fields.specs.declared.BandwidthCapabilities.{BandwidthCapabilities}
 use Rattle.fields.specs.declared.CapacityCapabilities.{CapacityCapabilities}
 use Rattle.fields.specs.declared.CounterSetting.{CounterSetting}
+use Rattle.fields.specs.declared.IommuQosid.{IommuQosid}
+use Rattle.fields.specs.declared.DcTa.{DcTa}
 
 -- there is one value for each field, and it fits
 abbrev pub InRange : List Place → List ℕ → Type 0
@@ -50,6 +52,12 @@ ofCapacityCapabilities r = r .frcid ∷ r .ncblks ∷ r .ver ∷ []
 
 abbrev pub ofCounterSetting : CounterSetting → List ℕ
 ofCounterSetting r = r .atv ∷ r .at ∷ r .evtid ∷ []
+
+abbrev pub ofIommuQosid : IommuQosid → List ℕ
+ofIommuQosid r = r .mcid ∷ r .rcid ∷ []
+
+abbrev pub ofDcTa : DcTa → List ℕ
+ofDcTa r = r .mcid ∷ r .rcid ∷ []
 
 -- with NA = 1 the AT and ATV fields are held as 0
 abbrev pub heldAllocCtl : ℕ → AllocCtl → AllocCtl

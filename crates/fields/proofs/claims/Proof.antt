@@ -19,6 +19,8 @@ packing = record {
   bandwidthCapabilities = record { ordered = reg.bandwidthCapabilities-ordered; names = refl };
   capacityCapabilities = record { ordered = reg.capacityCapabilities-ordered; names = refl };
   counterSetting = record { ordered = reg.counterSetting-ordered; names = refl };
+  iommuQosid = record { ordered = reg.iommuQosid-ordered; names = refl };
+  dcTa = record { ordered = reg.dcTa-ordered; names = refl };
   allocCtl1 = λ w r u. cc (reg.allocCtl-kept-1 w);
   monCtl1 = λ w r u. cc (reg.monCtl-kept-1 w);
 }
