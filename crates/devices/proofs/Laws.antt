@@ -1,8 +1,9 @@
 -- The identifiers that a word names, by the layout that the mode chooses.
 use mathlib.Core.Path.{_≡_, refl}
-use mathlib.Core.Bool.{true, false}
+use mathlib.Core.Bool.{true, false, cond}
 use mathlib.Core.List.{_∷_, []}
 use Prim.Native.Nat.{ℕ}
+use Rattle.tables.proofs.Tests.{cases}
 use Rattle.fields.specs.Layout.{unpack}
 use Rattle.fields.specs.Registers.{iommuQosid, dcTa}
 use Rattle.devices.specs.Devices.{usesDirectory, identifiersIn, outOfRange}
@@ -27,3 +28,8 @@ module _ (mode : ℕ) where
   pub register-refusal : usesDirectory mode ≡ false → 7 ≡ outOfRange mode
   unfolding outOfRange
   register-refusal t = rw t refl
+
+  -- of both numbers, so of the one that the mode chooses
+  pub out-of-range-by : (P : ℕ → Type 0) → P 9 → P 7 → P (outOfRange mode)
+  unfolding outOfRange
+  out-of-range-by P x y = cases (λ b. P (cond b 9 7)) (usesDirectory mode) (λ t. x) (λ t. y)
