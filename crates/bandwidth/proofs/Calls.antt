@@ -12,7 +12,6 @@ use Rattle.access.proofs.Checks.{setup-fails, lengths-fail, setup-passes}
 use Rattle.access.specs.Refusals.{numberOf}
 use Rattle.access.proofs.Refusals.{number-pos}
 use Rattle.access.specs.declared.Refusal.{Refusal}
-use Rattle.access.specs.declared.Refusal.the-variants.{Identifier}
 use Rattle.access.specs.Access.{registersEnd, readChecks, writeChecks}
 use Rattle.access.specs.Pairs.{knownAt}
 use Rattle.access.proofs.Pairs.{known-lt}
@@ -22,8 +21,9 @@ use Rattle.tables.proofs.Tests.{nor-l, of-true, of-false}
 use Rattle.monitor.specs.Monitor.{Monitor, cleared, monStatus, monAfter, writeMon, counted}
 use Rattle.monitor.specs.Bytes.{lastEvent, countsRequest, added}
 use Rattle.bandwidth_model.specs.Rules.{Setup, setupOk, pairs, holderOf, bwWord}
-use Rattle.bandwidth_model.specs.Calls.{Call, reset, read, write, request, endWindow, refused, done, value, granted}
+use Rattle.bandwidth_model.specs.Calls.{Call, reset, read, write, endWindow, refused, done, value, granted}
 use Rattle.bandwidth_model.specs.Claim.{isReset}
+use Rattle.bandwidth_model.specs.View.{Requests}
 use Rattle.bandwidth_model.specs.Model.{State, Allocation, Usage, Outcome, lengthsOk, argumentChecks, stateChecks, readAt, opened, afterReset, afterWindow, grantOf, grantSum, spend, serve, serveFrom, requested, writeAlloc, writeBw, writeAt, perform, step}
 use Rattle.bandwidth_model.proofs.Steps.{checking}
 use Rattle.bandwidth_settings.specs.View.{Ready}
@@ -69,14 +69,12 @@ module _ {s : State} {t : Totals} (p : Passes s t) where
   unfolding argumentChecks perform
   write-done size offset v x e q = call-done s (write size offset v) tt p (sym e) _ (rw q refl)
 
-  module _ (rcid mcid at kind bytes : ℕ) where
-    pub request-unknown : (leb (s .setup .nr) rcid || leb (s .setup .nm) mcid) ≡ true → outcome (refused 7) s ≡ step s (request rcid mcid at kind bytes)
-    unfolding argumentChecks
-    request-unknown e = call-refused s (request rcid mcid at kind bytes) tt p Identifier (rw e refl)
+  module _ {c : Call} {n rcid mcid at kind bytes : ℕ} (k : Requests c n rcid mcid at kind bytes) where
+    pub request-unknown : (leb (s .setup .nr) rcid || leb (s .setup .nm) mcid) ≡ true → (why : Refusal) → n ≡ numberOf why → outcome (refused (numberOf why)) s ≡ step s c
+    request-unknown e why q = call-refused s c (k .other) p why (rw (k .checks (s .setup), e, q) refl)
 
-    pub request-done : (leb (s .setup .nr) rcid || leb (s .setup .nm) mcid) ≡ false → (o : Outcome) → o ≡ requested s rcid mcid at kind bytes → o ≡ step s (request rcid mcid at kind bytes)
-    unfolding argumentChecks perform
-    request-done e o q = call-done s (request rcid mcid at kind bytes) tt p (rw e refl) o q
+    pub request-done : (leb (s .setup .nr) rcid || leb (s .setup .nm) mcid) ≡ false → (o : Outcome) → o ≡ requested s rcid mcid at kind bytes → o ≡ step s c
+    request-done e o q = call-done s c (k .other) p (rw (k .checks (s .setup), e) refl) o (q ∙ sym (k .performs s))
 
   pub end-done : (active used : List ℕ) → active ≡ s .alloc .configured → used ≡ replicate (pairs (s .setup)) 0
       → outcome done (record { setup = s .setup; alloc = s .alloc; usage = record { active = active; used = used; pool = 0 }; monitor = s .monitor }) ≡ step s endWindow

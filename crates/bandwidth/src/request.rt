@@ -7,11 +7,15 @@ use crate::check::Totals;
 use access::Refusal;
 use access::known_at;
 use bandwidth_grants::give;
+use devices::identifiers_in;
+use devices::out_of_range;
 use monitor::count_bytes;
 use tables::row_at;
 ghost use mathlib.Core.Path.{_≡_};
 ghost use Prim.Native.Nat.{_<_};
-ghost use Rattle.bandwidth_model.specs.Calls.{request};
+ghost use Rattle.access.specs.Refusals.{numberOf};
+ghost use Rattle.bandwidth_model.specs.Calls.{Call, request, deviceRequest};
+ghost use Rattle.bandwidth_model.specs.View.{Requests};
 ghost use Rattle.bandwidth_model.specs.Model.{requested, step};
 ghost use Rattle.bandwidth.specs.View.{before, after, state, outcome, grantingOf};
 ghost use Rattle.bandwidth.specs.Checked.{Passes};
@@ -58,7 +62,8 @@ impl Record {
         }
     }
 
-    pub fn request(
+    // A request with these identifiers, refused for `unknown` where one of them is out of range.
+    fn request_by(
         mut self,
         active: &[u32],
         configured: &[u32],
@@ -67,11 +72,13 @@ impl Record {
         events: &[u16],
         rcid: u64,
         mcid: u64,
+        unknown: Refusal,
         at: u64,
         kind: u64,
         bytes: u32,
     ) -> Served
-        ensures { λ r. ⌜ outcome (grantingOf (r .granting)) (after (r .«record») active configured used counters events) ≡ step (before self active configured used counters events) (request rcid mcid at kind bytes) ⌝ }
+        ensures { λ r. ⌜ ((c : Call) → Requests c (numberOf unknown) rcid mcid at kind bytes
+            → outcome (grantingOf (r .granting)) (after (r .«record») active configured used counters events) ≡ step (before self active configured used counters events) c) ⌝ }
     {
         match self.check(active, configured, used, counters, events) {
             Check::Failed(why) => Served {
@@ -83,7 +90,7 @@ impl Record {
                 if (setup.nr <= rcid) | (setup.nm <= mcid) {
                     return Served {
                         record: self,
-                        granting: Granting::Refused(Refusal::Identifier),
+                        granting: Granting::Refused(unknown),
                     };
                 }
                 self.serve(
@@ -101,5 +108,67 @@ impl Record {
                 )
             }
         }
+    }
+
+    pub fn request(
+        mut self,
+        active: &[u32],
+        configured: &[u32],
+        used: &mut [u32],
+        counters: &mut [u64],
+        events: &[u16],
+        rcid: u64,
+        mcid: u64,
+        at: u64,
+        kind: u64,
+        bytes: u32,
+    ) -> Served
+        ensures { λ r. ⌜ outcome (grantingOf (r .granting)) (after (r .«record») active configured used counters events) ≡ step (before self active configured used counters events) (request rcid mcid at kind bytes) ⌝ }
+    {
+        self.request_by(
+            active,
+            configured,
+            used,
+            counters,
+            events,
+            rcid,
+            mcid,
+            Refusal::Identifier,
+            at,
+            kind,
+            bytes,
+        )
+    }
+
+    // A device's request, by the IOMMU's mode and the word of its register or of the device context.
+    pub fn device_request(
+        mut self,
+        active: &[u32],
+        configured: &[u32],
+        used: &mut [u32],
+        counters: &mut [u64],
+        events: &[u16],
+        mode: u64,
+        word: u64,
+        at: u64,
+        kind: u64,
+        bytes: u32,
+    ) -> Served
+        ensures { λ r. ⌜ outcome (grantingOf (r .granting)) (after (r .«record») active configured used counters events) ≡ step (before self active configured used counters events) (deviceRequest mode word at kind bytes) ⌝ }
+    {
+        let ids = identifiers_in(mode, word);
+        self.request_by(
+            active,
+            configured,
+            used,
+            counters,
+            events,
+            ids.rcid,
+            ids.mcid,
+            out_of_range(mode),
+            at,
+            kind,
+            bytes,
+        )
     }
 }

@@ -1,4 +1,4 @@
--- A device's request is the request with the identifiers that its word names, but for one number.
+-- A device's request is the request with the identifiers that its word names, but for one number; both are requests by identifiers.
 use mathlib.Core.Path.{_≡_, refl}
 use mathlib.Core.Bool.{Bool, true, false, not, cond, _||_}
 use mathlib.Core.List.{[], _∷_}
@@ -7,13 +7,15 @@ use lib.Dec.{leb, eqb, eqb→eq}
 use Rattle.tables.proofs.Tests.{cases}
 use Rattle.access.specs.Checks as shared
 use Rattle.access.specs.Checks.{_gives_, first}
+use Rattle.devices.specs.declared.Identifiers.{Identifiers}
 use Rattle.devices.specs.Devices.{identifiersIn, outOfRange, numberBy}
 use Rattle.devices.proofs.Laws.{out-of-range-by}
 use Rattle.runs.specs.Runs as runs
 use Rattle.bandwidth_model.specs.Rules.{setupOk}
-use Rattle.bandwidth_model.specs.Calls.{deviceRequest, refused}
+use Rattle.bandwidth_model.specs.Calls.{request, deviceRequest, refused}
 use Rattle.bandwidth_model.specs.Model.{State, Outcome, lengthsOk, wellFormed, argumentChecks, checks, refusal, serve, serveFrom, requested, perform, step}
 use Rattle.bandwidth_model.specs.Ledger.{noteCall, tallyCall}
+use Rattle.bandwidth_model.specs.View.{Requests}
 use Rattle.bandwidth_model.specs.Claim.{asRequest, answerBy, outcomeBy, DeviceRequests}
 
 module _ (mode : ℕ) where
@@ -60,3 +62,15 @@ device-requests = record {
   ledger = λ l mode word at kind bytes a. refl;
   tally = λ t mode word at kind bytes a. refl;
 }
+
+-- ---- a request of either kind
+
+pub request-is : (rcid mcid at kind bytes : ℕ) → Requests (request rcid mcid at kind bytes) 7 rcid mcid at kind bytes
+unfolding argumentChecks perform
+request-is rcid mcid at kind bytes = record { other = tt; checks = λ su. refl; performs = λ s. refl }
+
+-- a device's, by the identifiers that its word names and its refusal
+pub device-is : (mode word at kind bytes : ℕ) {ids : Identifiers} {n : ℕ} → ids ≡ identifiersIn mode word → n ≡ outOfRange mode
+    → Requests (deviceRequest mode word at kind bytes) n (ids .rcid) (ids .mcid) at kind bytes
+unfolding argumentChecks perform
+device-is mode word at kind bytes e q = rw (e, q) (record { other = tt; checks = λ su. refl; performs = λ s. refl })
