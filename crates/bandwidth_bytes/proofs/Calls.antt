@@ -18,6 +18,8 @@ use Rattle.access.specs.Refusals.{numberOf}
 use Rattle.access.specs.declared.Refusal.{Refusal}
 use Rattle.access.specs.declared.Reading.{Reading}
 use Rattle.access.specs.declared.Reading.the-variants as reading
+use Rattle.devices.specs.declared.Identifiers.{Identifiers}
+use Rattle.devices.specs.Devices.{identifiersIn, outOfRange}
 use Rattle.monitor.specs.Monitor.{monStatus, monAfter}
 use Rattle.monitor.specs.Bytes.{lastEvent, countsRequest, added}
 use Rattle.monitor.specs.View.{monitorOf}
@@ -28,16 +30,18 @@ use Rattle.bandwidth_grants.specs.declared.Given.{Given}
 use Rattle.replies.specs.Replies.{reply, refusal}
 use Rattle.replies.proofs.Laws as laws
 use Rattle.bandwidth_model.specs.Rules.{Setup, pairs, bwWord}
-use Rattle.bandwidth_model.specs.Calls.{Call, reset, read, write, request, endWindow, refused, done, value, granted}
+use Rattle.bandwidth_model.specs.Calls.{Call, reset, read, write, request, deviceRequest, endWindow, refused, done, value, granted}
 use Rattle.bandwidth_model.specs.Claim.{isReset}
+use Rattle.bandwidth_model.specs.View.{Requests}
 use Rattle.bandwidth_model.specs.Model.{State, Outcome, writeAlloc, writeAt, step}
+use Rattle.bandwidth_model.proofs.Devices.{request-is, device-is}
 use Rattle.bandwidth_setup.specs.View.{setupOf}
 use Rattle.bandwidth.specs.declared.Record.{Record}
 use Rattle.bandwidth.specs.View.{state, outcome, readingOf}
 use Rattle.bandwidth.proofs.Calls as bandwidth
 use Rattle.bandwidth.proofs.Calls.{end-done, request-unknown, request-done, known-rcid, request-fits, serve-row, write-alloc-at, write-bw-at, write-mon-at, write-none}
 use Rattle.bandwidth_bytes.specs.Bytes.{Lent, lent, stateOf, lentOf, pointers, Reply, replyTo, setupFor, byteRefusal, stepBytes}
-use Rattle.bandwidth_bytes.specs.View.{wordsIn, stateIn, Tables, Passing, Checked, GiveFits, Gave, Stores}
+use Rattle.bandwidth_bytes.specs.View.{wordsIn, stateIn, Tables, Passing, Checked, Asks, GiveFits, Gave, Stores}
 use Rattle.bandwidth_bytes.specs.declared.check.Held.{Held}
 use Rattle.bandwidth_bytes.specs.declared.check.Check.{Check}
 use Rattle.bandwidth_bytes.specs.declared.check.Check.the-variants.{Passed, Failed}
@@ -59,6 +63,7 @@ by-record l (reset su) t = absurd t
 by-record l (read size offset) t = refl
 by-record l (write size offset v) t = refl
 by-record l (request rcid mcid at kind bytes) t = refl
+by-record l (deviceRequest mode word at kind bytes) t = refl
 by-record l endWindow t = refl
 
 module _ (l : Lent) (c : Call) where
@@ -113,6 +118,17 @@ module _ {l : Lent} {h : Held} (p : Passing l h) where
     pub granted-then : (v : ℕ) (x : State) (l′ : Lent) → outcome (granted v) x ≡ step s c → l′ ≡ lentOf x → reply 0 (v ∷ []) l′ ≡ stepBytes l c
     granted-then v x l′ e q = answered l (h .«record») (p .record-is) (p .none) c t _ e _ (ap (reply 0 (v ∷ [])) q)
 
+-- ---- a request of either kind
+
+pub request-asks : (rcid mcid at kind bytes : ℕ) → Asks (request rcid mcid at kind bytes) 7 rcid mcid at kind bytes
+unfolding pointers
+request-asks rcid mcid at kind bytes = record { is = request-is rcid mcid at kind bytes; one = refl }
+
+pub device-asks : (mode word at kind bytes : ℕ) {ids : Identifiers} {n : ℕ} → ids ≡ identifiersIn mode word → n ≡ outOfRange mode
+    → Asks (deviceRequest mode word at kind bytes) n (ids .rcid) (ids .mcid) at kind bytes
+unfolding pointers
+device-asks mode word at kind bytes e q = record { is = device-is mode word at kind bytes e q; one = refl }
+
 -- ---- each call
 
 module _ {l : Lent} {h : Held} (p : Passing l h) where
@@ -143,9 +159,10 @@ module _ {l : Lent} {h : Held} (p : Passing l h) where
   -- ---- requests
 
   module _ (rcid mcid at kind bytes : ℕ) where
-    pub request-unnamed : (leb (su .nr) rcid || leb (su .nm) mcid) ≡ true → reply 7 (0 ∷ []) l ≡ stepBytes l (request rcid mcid at kind bytes)
-    unfolding pointers
-    request-unnamed e = refused-then p (request rcid mcid at kind bytes) tt 7 (request-unknown (p .passes) rcid mcid at kind bytes e)
+    pub request-unnamed : {c : Call} (why : Refusal) {r : ℕ} → Asks c (numberOf why) rcid mcid at kind bytes → (leb (su .nr) rcid || leb (su .nm) mcid) ≡ true → r ≡ numberOf why
+        → reply r (0 ∷ []) l ≡ stepBytes l c
+    request-unnamed {c} why k e q =
+        rw q (rw (k .one) at (refused-then p c (k .is .other) (numberOf why) (request-unknown (p .passes) (k .is) e why refl)))
 
     module _ (e : (leb (su .nr) rcid || leb (su .nm) mcid) ≡ false) {a from to : ℕ} (k : a ≡ knownAt (su .na) at) (w : RowAt (su .nr) (su .na) rcid from to) where
       -- the words of the RCID
@@ -161,11 +178,11 @@ module _ {l : Lent} {h : Held} (p : Passing l h) where
           → R ≡ withWord 8 (l .«record») 11 (r .pool)
           → ((ns es : List ℕ) → Holds 8 (l .counters) ns → Holds 2 (l .events) es
           → N ≡ bytesOfAll 8 (cond (countsRequest (getD es mcid 0) a kind) (set ns mcid (added (su .w) (r .bytes) (getD ns mcid 0))) ns))
-          → reply 0 (r .bytes ∷ []) (lent R (l .active) (l .configured) U N (l .events)) ≡ stepBytes l (request rcid mcid at kind bytes)
-      served {r} g q n =
+          → (c : Call) (m : ℕ) → Requests c m rcid mcid at kind bytes → reply 0 (r .bytes ∷ []) (lent R (l .active) (l .configured) U N (l .events)) ≡ stepBytes l c
+      served {r} g q n c m i =
           let x = p .words in
-          granted-then p (request rcid mcid at kind bytes) tt (r .bytes) _ _
-          (request-done (p .passes) rcid mcid at kind bytes e _ (serve-row (p .passes) at bytes (known-rcid (su .nr) (su .nm) rcid mcid e) k w mcid kind (g .given) refl))
+          granted-then p c (i .other) (r .bytes) _ _
+          (request-done (p .passes) i e _ (serve-row (p .passes) at bytes (known-rcid (su .nr) (su .nm) rcid mcid e) k w mcid kind (g .given) refl))
           (same-bytes _ _ _ _ _ _ _ _ _ _ _ _ (q ∙ put-held 8 (lit< tt) 11 (r .pool) (l .«record») (wordsIn (h .«record»)) (x .«record»)) (x .active .bytes-are) (x .configured .bytes-are)
           (g .bytes-are (x .used .bytes-are)) (n _ _ (x .counters) (x .events)) (x .events .bytes-are))
 

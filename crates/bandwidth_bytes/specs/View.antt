@@ -19,6 +19,7 @@ use Rattle.bandwidth_setup.specs.View.{setupOf}
 use Rattle.bandwidth_model.specs.Rules.{Setup, pairs, resetTable}
 use Rattle.bandwidth_model.specs.Calls.{Call}
 use Rattle.bandwidth_model.specs.Claim.{isReset}
+use Rattle.bandwidth_model.specs.View.{Requests}
 use Rattle.bandwidth_model.specs.Model.{Allocation, State}
 use Rattle.bandwidth.specs.declared.Record.{Record}
 use Rattle.bandwidth.specs.View.{state}
@@ -90,6 +91,11 @@ pub record Passing (l : Lent) (h : Held) : Type 0 where
 abbrev pub Checked : Lent → Check → Type 0
 Checked l (Passed h) = Passing l h
 Checked l (Failed n) = (c : Call) → T (not (isReset c)) → refusal n (pointers c) l ≡ stepBytes l c
+
+-- the call is such a request, and hands back one number
+pub record Asks (c : Call) (n rcid mcid at kind bytes : ℕ) : Type 0 where
+  pub is : Requests c n rcid mcid at kind bytes
+  pub one : pointers c ≡ 1
 
 -- ---- parts of the tables
 

@@ -3,10 +3,14 @@ use crate::Answer;
 use crate::check::Check;
 use crate::check::Held;
 use crate::check::checked;
+use access::Refusal;
 use access::known_at;
+use access::refusal_number;
 use bandwidth_grants::Given;
 use bandwidth_grants::give;
 use bandwidth_setup::Setup;
+use devices::identifiers_in;
+use devices::out_of_range;
 use monitor_bytes::count_bytes;
 use tables::row_at;
 use words::load_part32;
@@ -15,14 +19,16 @@ use words::store_part32;
 ghost use mathlib.Core.Path.{_≡_};
 ghost use mathlib.Core.Bool.{false, _||_};
 ghost use mathlib.Core.List.{[], _∷_};
-ghost use Prim.Native.Nat.{_≤_};
+ghost use Prim.Native.Nat.{ℕ, _≤_};
 ghost use lib.Dec.{leb};
 ghost use lib.ListN.{length};
 ghost use Rattle.bandwidth_setup.specs.View.{setupOf};
 ghost use Rattle.replies.specs.Replies.{reply};
-ghost use Rattle.bandwidth_model.specs.Calls.{request};
+ghost use Rattle.access.specs.Refusals.{numberOf};
+ghost use Rattle.bandwidth_model.specs.Calls.{Call, request, deviceRequest};
+ghost use Rattle.bandwidth_model.specs.View.{Requests};
 ghost use Rattle.bandwidth_bytes.specs.Bytes.{lent, stepBytes};
-ghost use Rattle.bandwidth_bytes.specs.View.{before, after, Passing, GiveFits, Gave};
+ghost use Rattle.bandwidth_bytes.specs.View.{before, after, Passing, Asks, GiveFits, Gave};
 
 // A request by n words of its RCID from the word `from` on, with arrays for them.
 fn give_loaded(
@@ -96,7 +102,8 @@ fn serve(
 ) -> u64
     requires { ⌜ Passing (lent (now «record») (now active) (now configured) (now used) (now counters) (now events)) held
         × ((leb (held .«record» .setup .nr) rcid || leb (held .«record» .setup .nm) mcid) ≡ false) ⌝ }
-    ensures { λ r. ⌜ reply 0 (r ∷ []) (after «record» active configured used counters events) ≡ stepBytes (before «record» active configured used counters events) (request rcid mcid at kind bytes) ⌝ }
+    ensures { λ r. ⌜ ((c : Call) (n : ℕ) → Requests c n rcid mcid at kind bytes
+        → reply 0 (r ∷ []) (after «record» active configured used counters events) ≡ stepBytes (before «record» active configured used counters events) c) ⌝ }
 {
     let given = held.record;
     let totals = held.totals;
@@ -120,7 +127,8 @@ fn serve(
     sum
 }
 
-pub fn request(
+// A request with these identifiers, refused for `unknown` where one of them is out of range.
+fn request_by(
     record: &mut [u8],
     active: &[u8],
     configured: &[u8],
@@ -129,11 +137,13 @@ pub fn request(
     events: &[u8],
     rcid: u64,
     mcid: u64,
+    unknown: Refusal,
     at: u64,
     kind: u64,
     bytes: u32,
 ) -> Answer
-    ensures { λ r. ⌜ reply (r .number) (r .value ∷ []) (after «record» active configured used counters events) ≡ stepBytes (before «record» active configured used counters events) (request rcid mcid at kind bytes) ⌝ }
+    ensures { λ r. ⌜ ((c : Call) → Asks c (numberOf unknown) rcid mcid at kind bytes
+        → reply (r .number) (r .value ∷ []) (after «record» active configured used counters events) ≡ stepBytes (before «record» active configured used counters events) c) ⌝ }
 {
     match checked(record, active, configured, used, counters, events) {
         Check::Failed(number) => Answer { number, value: 0 },
@@ -142,7 +152,7 @@ pub fn request(
             let setup = given.setup;
             if (setup.nr <= rcid) | (setup.nm <= mcid) {
                 return Answer {
-                    number: 7,
+                    number: refusal_number(unknown),
                     value: 0,
                 };
             }
@@ -163,4 +173,68 @@ pub fn request(
             Answer { number: 0, value }
         }
     }
+}
+
+pub fn request(
+    record: &mut [u8],
+    active: &[u8],
+    configured: &[u8],
+    used: &mut [u8],
+    counters: &mut [u8],
+    events: &[u8],
+    rcid: u64,
+    mcid: u64,
+    at: u64,
+    kind: u64,
+    bytes: u32,
+) -> Answer
+    ensures { λ r. ⌜ reply (r .number) (r .value ∷ []) (after «record» active configured used counters events) ≡ stepBytes (before «record» active configured used counters events) (request rcid mcid at kind bytes) ⌝ }
+{
+    request_by(
+        record,
+        active,
+        configured,
+        used,
+        counters,
+        events,
+        rcid,
+        mcid,
+        Refusal::Identifier,
+        at,
+        kind,
+        bytes,
+    )
+}
+
+// A device's request, by the IOMMU's mode and the word of its register or of the device context.
+pub fn device_request(
+    record: &mut [u8],
+    active: &[u8],
+    configured: &[u8],
+    used: &mut [u8],
+    counters: &mut [u8],
+    events: &[u8],
+    mode: u64,
+    word: u64,
+    at: u64,
+    kind: u64,
+    bytes: u32,
+) -> Answer
+    ensures { λ r. ⌜ reply (r .number) (r .value ∷ []) (after «record» active configured used counters events) ≡ stepBytes (before «record» active configured used counters events) (deviceRequest mode word at kind bytes) ⌝ }
+{
+    let ids = identifiers_in(mode, word);
+    request_by(
+        record,
+        active,
+        configured,
+        used,
+        counters,
+        events,
+        ids.rcid,
+        ids.mcid,
+        out_of_range(mode),
+        at,
+        kind,
+        bytes,
+    )
 }
