@@ -4,6 +4,7 @@
 mod bandwidth;
 mod capacity;
 mod case;
+mod devices;
 mod forms;
 mod paper;
 mod published;
@@ -49,6 +50,7 @@ fn all(side: Side) -> Report {
     paper::run(&mut report);
     published::run(&mut report);
     bandwidth::run(&mut report);
+    devices::run(&mut report);
     capacity::run(&mut report);
     forms::run(&mut report);
     refusals::run(&mut report);

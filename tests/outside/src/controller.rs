@@ -8,10 +8,10 @@ use crate::generator::{self, Random, Step};
 use crate::image::Image;
 use crate::ledger::{self, Ledger};
 use crate::memory::Memory;
-use crate::model::{bandwidth, capacity, Answer, CommonCall, Performs};
+use crate::model::{bandwidth, capacity, Answer, CommonCall, Performs, Sizes};
 
 pub trait Controller {
-    type Setup: Copy + Debug;
+    type Setup: Copy + Debug + Sizes;
     type State: Clone + Debug + Image + Performs<Call = Self::Call>;
     type Call: Clone + Debug + CommonCall<Setup = Self::Setup>;
     type Ledger: Ledger<Call = Self::Call, State = Self::State>;
@@ -39,6 +39,8 @@ pub trait Controller {
     /// What an accepted call showed, by the value that it handed back and the states around it.
     fn accepted(before: &Self::State, call: &Self::Call, value: u64, after: &Self::State)
         -> Labels;
+    /// What a call showed that was refused for its own arguments.
+    fn refused(setup: &Self::Setup, call: &Self::Call) -> Labels;
     /// What a whole run must have shown.
     fn required() -> Labels;
 }
@@ -93,6 +95,10 @@ macro_rules! controller {
                 after: &$module::State,
             ) -> Labels {
                 coverage::$module::accepted(before, call, value, after)
+            }
+
+            fn refused(setup: &$module::Setup, call: &$module::Call) -> Labels {
+                coverage::$module::refused(setup, call)
             }
 
             fn required() -> Labels {

@@ -9,7 +9,7 @@ use std::collections::BTreeMap;
 use crate::controller::Controller;
 use crate::model::access::{ALLOC_CTL, MON_CTL};
 use crate::model::registers::STATUS;
-use crate::model::{Answer, Checked};
+use crate::model::{Answer, Checked, Sizes};
 
 pub type Labels = Vec<String>;
 
@@ -55,8 +55,7 @@ fn outcome(call: &str, refusal: u64) -> String {
     }
 }
 
-/// What a call showed: the number of its refusal and, for 3, what is not well formed; or what it
-/// changed.
+/// What a call showed: the number of its refusal and what that is for; or what it changed.
 pub fn labels<C: Controller>(
     before: &C::State,
     call: &C::Call,
@@ -66,10 +65,24 @@ pub fn labels<C: Controller>(
     let mut labels = vec![outcome(C::call_name(call), answer.refusal)];
     match answer.refusal {
         0 => labels.extend(C::accepted(before, call, answer.value, after)),
+        1 | 2 => {}
         3 => labels.push(format!("refused 3 for {}", before.fault().unwrap_or("nothing"))),
-        _ => {}
+        _ => labels.extend(C::refused(before.setup(), call)),
     }
     labels
+}
+
+/// Which identifiers of a refused call do not exist.
+const UNKNOWN: [&str; 3] = ["RCID alone", "MCID alone", "RCID and MCID"];
+
+fn unknown(call: &str, sizes: &impl Sizes, rcid: u64, mcid: u64) -> Option<String> {
+    let which = match (rcid < sizes.nr(), mcid < sizes.nm()) {
+        (true, true) => return None,
+        (false, true) => UNKNOWN[0],
+        (true, false) => UNKNOWN[1],
+        (false, false) => UNKNOWN[2],
+    };
+    Some(format!("{call} refused for {which}"))
 }
 
 /// The label of an operation's STATUS, if an accepted write performed one.
@@ -81,12 +94,16 @@ fn operation(offset: u64, alloc_ctl: u64, mon_ctl: u64) -> Option<String> {
     }
 }
 
-/// Labels that both controllers must show: each refusal of each call, and each STATUS.
+/// Labels that both controllers must show: each refusal of each call, each identifier that does not
+/// exist, and each STATUS.
 fn common_required(refusals: &[(&str, &[u64])]) -> Vec<String> {
     let mut labels = Vec::new();
     for (call, numbers) in refusals {
         labels.push(outcome(call, 0));
         labels.extend(numbers.iter().map(|&number| outcome(call, number)));
+        if numbers.contains(&7) || numbers.contains(&9) {
+            labels.extend(UNKNOWN.map(|which| format!("{call} refused for {which}")));
+        }
     }
     for register in ["alloc_ctl", "mon_ctl"] {
         labels.extend((1..=5).map(|status| format!("{register} STATUS {status}")));

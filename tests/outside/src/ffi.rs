@@ -40,6 +40,8 @@ bandwidth_function!(cbqri_bandwidth_read(; size: u64, offset: u64, value: &mut u
 bandwidth_function!(cbqri_bandwidth_write(; size: u64, offset: u64, value: u64));
 bandwidth_function!(cbqri_bandwidth_request(; rcid: u64, mcid: u64, at: u64, kind: u64, bytes: u32,
     granted: &mut u64));
+bandwidth_function!(cbqri_bandwidth_device_request(; mode: u64, word: u64, at: u64, kind: u64,
+    bytes: u32, granted: &mut u64));
 bandwidth_function!(cbqri_bandwidth_end_window(;));
 
 capacity_function!(cbqri_capacity_reset(ncblks, nr, na, nm, w;));
@@ -74,6 +76,9 @@ pub fn bandwidth(memory: &mut Memory, call: &bandwidth::Call) -> Answer {
         Write { size, offset, value } => plain(cbqri_bandwidth_write(memory, size, offset, value)),
         Request(r) => with_value(|granted| {
             cbqri_bandwidth_request(memory, r.rcid, r.mcid, r.at, r.kind, r.bytes, granted)
+        }),
+        DeviceRequest(d) => with_value(|granted| {
+            cbqri_bandwidth_device_request(memory, d.mode, d.word, d.at, d.kind, d.bytes, granted)
         }),
         EndWindow => plain(cbqri_bandwidth_end_window(memory)),
     }

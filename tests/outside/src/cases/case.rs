@@ -190,6 +190,11 @@ impl<'a> Case<'a, Bandwidth> {
         self.answers(name, &bandwidth::Call::Request(request), granted);
     }
 
+    /// Mode, word, AT, kind and bytes of a device's request.
+    pub fn device_request(&mut self, name: &str, arguments: [u64; 5], granted: u64) {
+        self.answers(name, &device_request(arguments), granted);
+    }
+
     pub fn end_window(&mut self) {
         self.answers("end of a window", &bandwidth::Call::EndWindow, 0);
     }
@@ -198,6 +203,11 @@ impl<'a> Case<'a, Bandwidth> {
 pub fn bandwidth_setup(numbers: [u64; 7]) -> bandwidth::Setup {
     let [nbwblks, mrbwb, nr, na, nm, q, w] = numbers;
     bandwidth::Setup { nbwblks, mrbwb, nr, na, nm, q, w }
+}
+
+pub fn device_request([mode, word, at, kind, bytes]: [u64; 5]) -> bandwidth::Call {
+    let bytes = bytes as u32;
+    bandwidth::Call::DeviceRequest(bandwidth::DeviceRequest { mode, word, at, kind, bytes })
 }
 
 impl<'a> Case<'a, Capacity> {

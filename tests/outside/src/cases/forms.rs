@@ -73,7 +73,7 @@ const SETTING_FORMS: [(&str, u64, u64, u64); 13] = [
     ("a sharer's Mweight", 0x8010_0000, 3, 3),
 ];
 
-fn good_state(report: &mut Report) -> BandwidthCase<'_> {
+pub fn good_state(report: &mut Report) -> BandwidthCase<'_> {
     let mut c = BandwidthCase::after_reset(report, TWO_TYPES);
     c.configure("RCID 0", (0, 0), 30, 1);
     c.configure("RCID 1", (1, 0), 0x0050_001E, 1);

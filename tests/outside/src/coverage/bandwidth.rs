@@ -1,9 +1,11 @@
 //! What a run shows of the bandwidth controller.
 
-use super::{common_required, operation, Labels};
+mod devices;
+
+use super::{common_required, operation, unknown, Labels};
 use crate::model::access::ALLOC_CTL;
 use crate::model::bandwidth::settings::{is_sharer, weight, RBWB, SHARED_AT, USE_SHARED};
-use crate::model::bandwidth::{holder_of, Call, Request, State, OVF};
+use crate::model::bandwidth::{holder_of, Call, Request, Setup, State, OVF};
 use crate::model::registers::{AT, RCID, STATUS};
 use crate::model::{access_type, Sizes};
 
@@ -13,6 +15,7 @@ pub fn call_name(call: &Call) -> &'static str {
         Call::Read { .. } => "read",
         Call::Write { .. } => "write",
         Call::Request(_) => "request",
+        Call::DeviceRequest(device) => devices::name(device),
         Call::EndWindow => "end_window",
     }
 }
@@ -31,9 +34,24 @@ pub fn accepted(before: &State, call: &Call, value: u64, after: &State) -> Label
             labels.push(source(before, request, value, after));
             labels.extend(counter_change(before, request, value, after));
         }
+        Call::DeviceRequest(device) => {
+            labels.extend(devices::accepted(before, device, value, after))
+        }
         Call::EndWindow if before.active != after.active => {
             labels.push("window end put other settings in force".into());
         }
+        _ => {}
+    }
+    labels
+}
+
+pub fn refused(setup: &Setup, call: &Call) -> Labels {
+    let mut labels = Labels::new();
+    match call {
+        Call::Request(request) => {
+            labels.extend(unknown("request", setup, request.rcid, request.mcid));
+        }
+        Call::DeviceRequest(device) => labels.extend(devices::refused(setup, device)),
         _ => {}
     }
     labels
@@ -127,9 +145,13 @@ pub fn required() -> Labels {
         ("read", &[1, 2, 3, 4, 5]),
         ("write", &[1, 2, 3, 4, 5, 6]),
         ("request", &[1, 2, 3, 7]),
+        (devices::OFF_NAME, &[1, 2, 3, 7]),
+        (devices::BARE_NAME, &[1, 2, 3, 7]),
+        (devices::DIRECTORY_NAME, &[1, 2, 3, 9]),
         ("end_window", &[1, 2, 3]),
     ]);
     labels.extend(OTHERS.map(String::from));
+    labels.extend(devices::required());
     labels
 }
 

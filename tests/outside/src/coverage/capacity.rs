@@ -1,7 +1,7 @@
 //! What a run shows of the capacity controller.
 
-use super::{common_required, operation, Labels};
-use crate::model::capacity::{Call, State, INVALID};
+use super::{common_required, operation, unknown, Labels};
+use crate::model::capacity::{Call, Setup, State, INVALID};
 
 pub fn call_name(call: &Call) -> &'static str {
     match call {
@@ -31,6 +31,15 @@ pub fn accepted(before: &State, call: &Call, value: u64, after: &State) -> Label
         Call::Read { .. } | Call::Reset(_) => {}
     }
     labels
+}
+
+pub fn refused(setup: &Setup, call: &Call) -> Labels {
+    match call {
+        Call::Fill(event) | Call::Evict(event) => {
+            unknown(call_name(call), setup, event.rcid, event.mcid).into_iter().collect()
+        }
+        _ => Labels::new(),
+    }
 }
 
 fn state_change(before: &State, after: &State) -> Option<String> {

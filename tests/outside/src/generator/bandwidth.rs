@@ -1,6 +1,7 @@
 //! Lists of calls of the bandwidth controller.
 
 mod damage;
+mod devices;
 mod operand;
 mod states;
 
@@ -12,6 +13,7 @@ use crate::model::bandwidth::settings::{reserved, weight};
 use crate::model::bandwidth::{holder_of, pool_size, Call, Request, Setup, State, LAST_EVENT};
 use crate::model::registers::{CONFIG_LIMIT, READ_COUNTER, READ_LIMIT};
 use crate::model::{Checked, CommonCall, Sizes};
+use devices::{made_by_any, set_mcid};
 use operand::any_operand;
 
 type Steps = Vec<Step<Call>>;
@@ -48,19 +50,20 @@ pub fn scenario(random: &mut Random, state: &State, lengths: &[usize], quiet: bo
 
 /// Any call, with arguments of every kind.
 pub fn any_call(random: &mut Random, setup: &Setup) -> Call {
-    let (size, offset, value) = match random.below(12) {
+    let (size, offset, value) = match random.below(13) {
         0 | 1 => {
             let (size, offset) = common::access(random);
             return Call::Read { size, offset };
         }
-        2 | 3 => {
+        2..=4 => {
             let bytes = random.number() as u32;
-            return Call::Request(any_request(random, setup, bytes));
+            let request = any_request(random, setup, bytes);
+            return made_by_any(random, setup, request);
         }
-        4 => return Call::EndWindow,
-        5 if random.percent(40) => return Call::Reset(setups::bandwidth::outside(random)),
-        5..=7 => common::any_write(random),
-        8 | 9 => common::any_alloc_ctl(random, setup.nr, setup.na),
+        5 => return Call::EndWindow,
+        6 if random.percent(40) => return Call::Reset(setups::bandwidth::outside(random)),
+        6..=8 => common::any_write(random),
+        9 | 10 => common::any_alloc_ctl(random, setup.nr, setup.na),
         _ => common::any_mon_ctl(random, setup.na, setup.nm, LAST_EVENT),
     };
     Call::Write { size, offset, value }
@@ -95,7 +98,7 @@ fn requests(random: &mut Random, state: &State) -> Steps {
                 (request.rcid, request.at) = active_pair(random, state);
             }
             request.bytes = likely_bytes(random, state, &request);
-            Step::Call(Call::Request(request))
+            Step::Call(made_by_any(random, setup, request))
         })
         .collect()
 }
@@ -150,8 +153,9 @@ fn likely_bytes(random: &mut Random, state: &State, request: &Request) -> u32 {
 fn monitoring(random: &mut Random, state: &State) -> Steps {
     let setup = &state.record.setup;
     let calls = |random: &mut Random| requests(random, state);
-    common::monitoring(random, setup, LAST_EVENT, calls, |call| match call {
-        Call::Request(request) => &mut request.mcid,
+    common::monitoring(random, setup, LAST_EVENT, calls, |call, mcid| match call {
+        Call::Request(request) => request.mcid = mcid,
+        Call::DeviceRequest(device) => set_mcid(device, mcid),
         _ => unreachable!("requests alone"),
     })
 }
@@ -170,7 +174,8 @@ fn edge_of_counter(random: &mut Random, state: &State) -> Steps {
     for _ in 0..3 {
         let bytes = random.below(6 * setup.q) as u32;
         let request = any_request(random, setup, bytes);
-        steps.push(Step::Call(Call::Request(Request { rcid, mcid, ..request })));
+        let request = Request { rcid, mcid, ..request };
+        steps.push(Step::Call(made_by_any(random, setup, request)));
     }
     steps.push(Step::write((8, 8, READ_COUNTER | mcid << 8)));
     steps.push(Step::read(8, MON_CTR_VAL));

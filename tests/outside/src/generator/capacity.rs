@@ -114,8 +114,8 @@ fn events(random: &mut Random, state: &State) -> Steps {
 fn monitoring(random: &mut Random, state: &State) -> Steps {
     let setup = &state.record.setup;
     let calls = |random: &mut Random| events(random, state);
-    common::monitoring(random, setup, LAST_EVENT, calls, |call| match call {
-        Call::Fill(event) | Call::Evict(event) => &mut event.mcid,
+    common::monitoring(random, setup, LAST_EVENT, calls, |call, mcid| match call {
+        Call::Fill(event) | Call::Evict(event) => event.mcid = mcid,
         _ => unreachable!("fills and evictions alone"),
     })
 }

@@ -66,7 +66,7 @@ pub fn monitoring<C: CommonCall>(
     sizes: &impl Sizes,
     last_event: u64,
     calls: impl FnOnce(&mut Random) -> Vec<Step<C>>,
-    mcid_of: impl Fn(&mut C) -> &mut u64,
+    set_mcid: impl Fn(&mut C, u64),
 ) -> Vec<Step<C>> {
     let (na, nm) = (sizes.na(), sizes.nm());
     if random.percent(30) {
@@ -79,7 +79,7 @@ pub fn monitoring<C: CommonCall>(
     for mut step in calls(random) {
         if let Step::Call(call) = &mut step {
             if random.percent(80) {
-                *mcid_of(call) = mcid;
+                set_mcid(call, mcid);
             }
         }
         steps.push(step);

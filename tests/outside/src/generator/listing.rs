@@ -111,6 +111,8 @@ fn line_of(random: &mut Random, call: &Call) -> Vec<u8> {
         Call::Request(Request { rcid, mcid, at, kind, bytes }) => {
             "q".to_string() + &decimals(&[rcid, mcid, at, kind, bytes as u64])
         }
+        // no line asks for a device's request: the request that it is stands in its place
+        Call::DeviceRequest(device) => return line_of(random, &Call::Request(device.request())),
         Call::EndWindow => "e".to_string(),
     };
     line.into_bytes()

@@ -4,8 +4,8 @@ use super::{claim, CounterSet};
 use crate::model::access::Part;
 use crate::model::bandwidth::settings::{all_reserved, named_bits, reserved, stored_form, weight};
 use crate::model::bandwidth::{
-    alloc_status, counted, first_settings, holder_of, pool_size, Call, Request, Setup, State, CTR,
-    LAST_EVENT, OVF,
+    alloc_status, counted, first_settings, holder_of, pool_size, Call, DeviceRequest, Request,
+    Setup, State, CTR, LAST_EVENT, OVF,
 };
 use crate::model::registers::{AT, CONFIG_LIMIT, DONE, OP, RCID};
 use crate::model::{access_type, Sizes};
@@ -99,7 +99,8 @@ impl super::Ledger for Ledger {
 
     fn own(&mut self, call: &Call, answered: u64) -> Result<(), String> {
         match call {
-            Call::Request(request) => self.request(request, answered),
+            Call::Request(request) => return self.request(request, answered),
+            Call::DeviceRequest(device) => return self.request(&request_of(device), answered),
             Call::EndWindow => {
                 self.active = self.configured.clone();
                 self.window = Window::open(&self.setup);
@@ -116,8 +117,18 @@ impl super::Ledger for Ledger {
     }
 }
 
+/// A device's request as one with the identifiers of its word, 12 bits each: iommu_qosid has RCID
+/// from bit 0 and MCID from bit 16, DC.ta of a device directory from bits 40 and 52.
+fn request_of(device: &DeviceRequest) -> Request {
+    let DeviceRequest { mode, word, at, kind, bytes } = *device;
+    let (rcid, mcid) = if mode < 2 { (word, word >> 16) } else { (word >> 40, word >> 52) };
+    Request { rcid: rcid % 4_096, mcid: mcid % 4_096, at, kind, bytes }
+}
+
 impl Ledger {
-    fn request(&mut self, request: &Request, granted: u64) {
+    fn request(&mut self, request: &Request, granted: u64) -> Result<(), String> {
+        let exists = request.rcid < self.setup.nr && request.mcid < self.setup.nm;
+        claim(exists, || format!("accepted with an RCID or MCID that is not there: {request:?}"))?;
         let at = access_type(request.at, self.setup.na);
         if let Some(place) = holder_of(&self.setup, &self.active, request.rcid, at) {
             self.window.asked[place] += request.bytes as u64;
@@ -128,6 +139,7 @@ impl Ledger {
         if counted(tally.setting, at, request.kind) {
             tally.total = tally.total.map(|total| total + granted as u128);
         }
+        Ok(())
     }
 
     fn check_settings(&self, state: &State) -> Result<(), String> {
@@ -268,6 +280,63 @@ mod tests {
         let read = Call::Read { size: 8, offset: 32 };
         assert!(ledger.observe(&read, Answer::value(20)).is_ok());
         assert!(ledger.observe(&read, Answer::value(21)).is_err());
+    }
+
+    /// RCID 1 and MCID 2 by iommu_qosid, RCID 0 and MCID 3 by DC.ta, and all other bits set.
+    fn device(mode: u64, bytes: u32) -> Call {
+        let word = 0x0030_00FF_F002_F001;
+        Call::DeviceRequest(DeviceRequest { mode, word, at: 0, kind: 1, bytes })
+    }
+
+    #[test]
+    fn a_devices_request_is_noted_as_a_request() {
+        for (mode, place) in [(0, 2), (1, 2), (2, 0), (u64::MAX, 0)] {
+            let (mut state, mut ledger) = in_use();
+            make(&mut state, &mut ledger, &device(mode, 500)).unwrap();
+            let mut expected = vec![0; 8];
+            expected[place] = 500;
+            assert_eq!(ledger.window.asked, expected, "mode {mode}");
+            assert_eq!(ledger.window.granted, expected, "mode {mode}");
+            assert_eq!(ledger.window.sum, 500);
+        }
+    }
+
+    #[test]
+    fn a_devices_grant_is_claimed_by_its_own_holder() {
+        let (_, mut ledger) = in_use();
+        ledger.observe(&device(1, 2_000), Answer::value(1_281)).unwrap();
+        assert!(ledger.check_window().is_err(), "RCID 1 has weight 0 and 1,280 bytes");
+        let (_, mut ledger) = in_use();
+        ledger.observe(&device(2, 2_000), Answer::value(1_281)).unwrap();
+        assert!(ledger.check_window().is_err(), "RCID 0 has 1,920 bytes");
+        let (_, mut ledger) = in_use();
+        ledger.observe(&device(2, 2_000), Answer::value(1_920)).unwrap();
+        assert!(ledger.check_window().is_ok());
+    }
+
+    #[test]
+    fn a_devices_grant_is_tied_to_its_counter() {
+        for (mode, mcid) in [(0, 2), (1, 2), (3, 3)] {
+            let (mut state, mut ledger) = in_use();
+            let event = 0x30_0001 | (mcid as u64) << 8;
+            make(&mut state, &mut ledger, &write(8, event)).unwrap();
+            make(&mut state, &mut ledger, &device(mode, 70)).unwrap();
+            assert_eq!(state.counters[mcid], 70);
+            state.counters[mcid] = 0;
+            assert!(ledger.check(&state).is_err(), "mode {mode}");
+        }
+    }
+
+    #[test]
+    fn no_accepted_request_names_what_does_not_exist() {
+        let (_, mut ledger) = in_use();
+        let word = 0x0000_0400_0004_0000;
+        for mode in [0, 2] {
+            let device = DeviceRequest { mode, word, at: 0, kind: 0, bytes: 0 };
+            let call = Call::DeviceRequest(device);
+            assert!(ledger.observe(&call, Answer::value(0)).is_err(), "mode {mode}");
+            assert!(ledger.observe(&call, Answer::refused(7)).is_ok());
+        }
     }
 
     #[test]

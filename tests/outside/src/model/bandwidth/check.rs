@@ -4,7 +4,7 @@ use super::request::{pool_size, CTR};
 use super::settings::{
     all_reserved, bad_share, is_sharer, named_bits, reserved, shared_at, stored_form,
 };
-use super::{Call, Record, Setup, State, LAST_EVENT};
+use super::{Call, Record, Request, Setup, State, LAST_EVENT};
 use crate::model::check::Checked;
 use crate::model::monitor::monitor_fault;
 use crate::model::registers::{alloc_ctl_well_formed, mon_ctl_well_formed};
@@ -53,10 +53,22 @@ impl Checked for State {
 
     fn own_refusal(setup: &Setup, call: &Call) -> u64 {
         match call {
-            Call::Request(request) if request.rcid >= setup.nr || request.mcid >= setup.nm => 7,
+            Call::Request(request) if names_unknown(setup, request) => 7,
+            Call::DeviceRequest(device) if names_unknown(setup, &device.request()) => {
+                if device.has_directory() {
+                    9
+                } else {
+                    7
+                }
+            }
             _ => 0,
         }
     }
+}
+
+/// Whether a request names an RCID or an MCID that does not exist.
+fn names_unknown(setup: &Setup, request: &Request) -> bool {
+    request.rcid >= setup.nr || request.mcid >= setup.nm
 }
 
 /// Every bit of mon_ctr_val is in one of its fields, so any word is well formed there.
@@ -91,6 +103,7 @@ fn used_well_formed(state: &State) -> bool {
 #[cfg(test)]
 mod tests {
     use super::super::limits::bad_operand;
+    use super::super::DeviceRequest;
     use super::*;
     use crate::generator::Random;
 
@@ -131,6 +144,21 @@ mod tests {
             9..=13 => random.below(4) as u32,
             _ => 0,
         }
+    }
+
+    /// NR is 2 and NM 1.
+    #[test]
+    fn identifiers_of_devices() {
+        let refusal = |mode: u64, word: u64| {
+            let device = DeviceRequest { mode, word, at: 0, kind: 0, bytes: 0 };
+            State::own_refusal(&SETUP, &Call::DeviceRequest(device))
+        };
+        let [register, context] = [0x0000_0000_0000_0001, 0x0000_0100_0000_0000];
+        assert_eq!([0, 1, 2, 3].map(|mode| refusal(mode, register | context)), [0; 4]);
+        assert_eq!([0, 1, 2, 3].map(|mode| refusal(mode, 2 * register)), [7, 7, 0, 0]);
+        assert_eq!([0, 1, 2, 3].map(|mode| refusal(mode, 2 * context)), [0, 0, 9, 9]);
+        assert_eq!([0, 1, 2, 3].map(|mode| refusal(mode, 1 << 16)), [7, 7, 0, 0]);
+        assert_eq!([0, 1, 2, 3].map(|mode| refusal(mode, 1 << 52)), [0, 0, 9, 9]);
     }
 
     #[test]

@@ -1,6 +1,7 @@
 //! The bandwidth controller: set-up, state, calls, and one call's effect.
 
 mod check;
+pub mod device;
 mod limits;
 mod request;
 mod reset;
@@ -76,6 +77,7 @@ pub enum Call {
     Read { size: u64, offset: u64 },
     Write { size: u64, offset: u64, value: u64 },
     Request(Request),
+    DeviceRequest(DeviceRequest),
     EndWindow,
 }
 
@@ -85,6 +87,18 @@ pub struct Request {
     pub mcid: u64,
     pub at: u64,
     /// 0 is a read, any other number a write.
+    pub kind: u64,
+    pub bytes: u32,
+}
+
+/// A request that a device makes through the IOMMU.
+#[derive(Clone, Copy, Debug, PartialEq, Eq)]
+pub struct DeviceRequest {
+    /// 0 is an IOMMU that is off, 1 a bare one, any other number one with a device directory.
+    pub mode: u64,
+    /// iommu_qosid; with a device directory, the word ta of the device context.
+    pub word: u64,
+    pub at: u64,
     pub kind: u64,
     pub bytes: u32,
 }
@@ -120,6 +134,7 @@ impl Performs for State {
     fn own(&mut self, call: &Call) -> u64 {
         match call {
             Call::Request(request) => return request::grant(self, request),
+            Call::DeviceRequest(device) => return request::grant(self, &device.request()),
             Call::EndWindow => end_window(self),
             _ => {}
         }
