@@ -6,7 +6,8 @@
  * plain.c and tuned.c are compiled by gcc and, with -DWITH_CLANG, by clang
  * too, both with -O3 for baseline x86-64; the better one counts and is named.
  * With -DWITH_BEFORE another build of the library takes part, whose functions
- * begin with before_cbqri_: that of an earlier commit.
+ * begin with before_cbqri_: that of an earlier commit, perhaps without the
+ * device's request.
  * Each number is the least of several repetitions, in which the versions take
  * turns; a ratio is that of the two numbers printed beside it. All versions
  * must give the same answers and leave the same bytes.
@@ -17,6 +18,7 @@
 #include "fastest.h"
 #include "inputs.h"
 
+#include <math.h>
 #include <time.h>
 
 #define PREFIX plain_gcc_
@@ -38,6 +40,7 @@
 #define PREFIX before_cbqri_
 #include "plain.h"
 #undef PREFIX
+#pragma weak before_cbqri_bandwidth_device_request
 #endif
 
 enum group { LIBRARY, PLAIN, TUNED, BEFORE, GROUPS };
@@ -75,6 +78,18 @@ static uint64_t run_request(const struct interface *f, uint64_t n)
         const struct arguments *a = &list[i % CALLS];
         sum += f->bandwidth_request(BANDWIDTH_OF(&now.bandwidth), a->rcid, a->mcid, a->at,
                                     a->which, a->bytes, &granted) << 40;
+        sum += granted;
+    }
+    return sum;
+}
+
+static uint64_t run_device_request(const struct interface *f, uint64_t n)
+{
+    uint64_t sum = 0, granted;
+    for (uint64_t i = 0; i < n; i++) {
+        const struct arguments *a = &list[i % CALLS];
+        sum += f->bandwidth_device_request(BANDWIDTH_OF(&now.bandwidth), CBQRI_IOMMU_DIRECTORY,
+                                           a->ta, a->at, a->which, a->bytes, &granted) << 40;
         sum += granted;
     }
     return sum;
@@ -137,11 +152,20 @@ static const struct measured {
     uint64_t (*run)(const struct interface *f, uint64_t n);
     int bandwidth;
 } measured[] = {
-    {"request", run_request, 1},       {"CONFIG_LIMIT write", run_config_limit, 1},
-    {"read bw_alloc", run_read, 1},    {"window end", run_end_window, 1},
-    {"fill", run_fill, 0},             {"evict", run_evict, 0},
+    {"request", run_request, 1},
+    {"device's request", run_device_request, 1},
+    {"CONFIG_LIMIT write", run_config_limit, 1},
+    {"read bw_alloc", run_read, 1},
+    {"window end", run_end_window, 1},
+    {"fill", run_fill, 0},
+    {"evict", run_evict, 0},
 };
 enum { MEASURED = sizeof measured / sizeof measured[0] };
+
+static int has_call(const struct interface *f, const struct measured *m)
+{
+    return m->run != run_device_request || f->bandwidth_device_request;
+}
 
 /* For scale */
 
@@ -243,6 +267,9 @@ static void take_times(const struct measured *m, int repetitions, double millise
     for (int r = 0; r < repetitions; r++) {
         for (int turn = 0; turn < VERSIONS; turn++) {
             int v = (r + turn) % VERSIONS;
+            times[v][r] = NAN;
+            if (!has_call(&versions[v].f, m))
+                continue;
             times[v][r] = time_calls(m, &versions[v].f, n, &sum);
             check_same(sum, &first_sum, r == 0 && turn == 0, m->name);
         }
@@ -284,7 +311,7 @@ static void print_head(int repetitions, double milliseconds)
            "state", "library", "plain", "", "tuned", "", "read all", "library/plain",
            "library/tuned");
 #ifdef WITH_BEFORE
-    printf("at the end of a row: before, library/before\n");
+    printf("at the end of a row: before, library/before; nan if before has no such call\n");
 #endif
 }
 

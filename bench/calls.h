@@ -173,13 +173,17 @@ static void damage_length(size_t *length)
 
 /* Random calls */
 
-enum kind { RESET, READ, WRITE, REQUEST, END_WINDOW, FILL = REQUEST, EVICT = END_WINDOW };
+enum kind {
+    RESET, READ, WRITE, REQUEST, END_WINDOW, DEVICE_REQUEST,
+    FILL = REQUEST, EVICT = END_WINDOW
+};
 
 struct call {
     enum kind kind;
     struct setup setup;             /* of a reset */
     uint64_t size, offset, value;   /* of a read or write */
     uint64_t rcid, mcid, at, which; /* of a request or cache event */
+    uint64_t mode, word;            /* of a device's request, beside at and which */
     uint32_t bytes;
 };
 
@@ -217,10 +221,29 @@ static void random_access(struct call *c, const struct setup *s, int bandwidth)
         c->value &= UINT32_MAX;
 }
 
+/* An identifier of 12 bits; NR and NM are at most 256. */
+static uint64_t random_id(uint64_t ids)
+{
+    return one_in(20) ? PICK(ids, UINT64_C(256) << upto(4), 0xfff) : upto(ids);
+}
+
+/* The identifiers stand where the mode has them; the other bits may be anything. */
+static void random_device(struct call *c, const struct setup *s)
+{
+    uint64_t rcid = random_id(s->nr), mcid = random_id(s->nm);
+    uint64_t stray = one_in(2) ? next_random(&seed) : 0;
+    c->mode = PICK(0, 0, 1, 1, 2, 3, 4, UINT64_C(1) << 32, UINT64_MAX);
+    if (c->mode <= 1)
+        c->word = rcid | mcid << 16 | (stray & ~UINT64_C(0x0fff0fff));
+    else
+        c->word = rcid << 40 | mcid << 52 | (stray & UINT64_C(0xffffffffff));
+}
+
 static struct call random_call(const struct setup *s, int bandwidth)
 {
     struct call c = {0};
-    c.kind = (enum kind)PICK(READ, WRITE, WRITE, WRITE, REQUEST, REQUEST, END_WINDOW);
+    c.kind = (enum kind)PICK(READ, WRITE, WRITE, WRITE, REQUEST, REQUEST, END_WINDOW,
+                             bandwidth ? DEVICE_REQUEST : FILL);
     if (one_in(50))
         c.kind = RESET;
     c.setup = *s;
@@ -237,6 +260,7 @@ static struct call random_call(const struct setup *s, int bandwidth)
     c.which = bandwidth ? PICK(0, 0, 1, 2, UINT64_MAX)
                         : (one_in(10) ? PICK(s->ncblks, 64, UINT64_MAX) : upto(s->ncblks));
     c.bytes = (uint32_t)random_word(32);
+    random_device(&c, s);
     return c;
 }
 
@@ -260,6 +284,9 @@ static uint64_t call_bandwidth(const struct interface *f, const struct slice *b,
         return f->bandwidth_write(SIX(b), c->size, c->offset, c->value);
     case REQUEST:
         return f->bandwidth_request(SIX(b), c->rcid, c->mcid, c->at, c->which, c->bytes, out);
+    case DEVICE_REQUEST:
+        return f->bandwidth_device_request(SIX(b), c->mode, c->word, c->at, c->which, c->bytes,
+                                           out);
     default:
         return f->bandwidth_end_window(SIX(b));
     }
@@ -285,11 +312,12 @@ static uint64_t call_capacity(const struct interface *f, const struct slice *b,
 
 /* The controllers */
 
-enum { ANSWERS = 9, KINDS = 5 };
+enum { ANSWERS = 10, KINDS = 6 };
 
 struct controller {
-    const char *name, *calls[KINDS];
-    int place, slices, last_answer, calls_of_a_round;
+    const char *name, *calls[KINDS]; /* by kind, as many as it has */
+    int place, slices, calls_of_a_round;
+    unsigned answers;            /* bit N: some call answers N */
     size_t record;               /* bytes */
     unsigned widths[MAX_SLICES]; /* bytes of a word in each slice */
     void (*random_state)(const struct slice *list, const struct setup *s);
@@ -299,9 +327,9 @@ struct controller {
 
 enum { CONTROLLERS = 2 };
 static const struct controller controllers[CONTROLLERS] = {
-    {"bandwidth", {"reset", "read", "write", "request", "end_window"}, 0, BANDWIDTH_SLICES_END, 7,
-     24, 96, {8, 4, 4, 4, 8, 2}, random_bandwidth, call_bandwidth},
-    {"capacity", {"reset", "read", "write", "fill", "evict"}, 1, CAPACITY_SLICES_END, 8, 12, 72,
+    {"bandwidth", {"reset", "read", "write", "request", "end_window", "device_request"}, 0,
+     BANDWIDTH_SLICES_END, 24, 0x2ff, 96, {8, 4, 4, 4, 8, 2}, random_bandwidth, call_bandwidth},
+    {"capacity", {"reset", "read", "write", "fill", "evict"}, 1, CAPACITY_SLICES_END, 12, 0x1ff, 72,
      {8, 8, 8, 2}, random_capacity, call_capacity},
 };
 

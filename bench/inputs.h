@@ -18,9 +18,10 @@ struct setup {
 enum { NBWBLKS = 60000, MRBWB = 50000, Q = 65536, W = 40, NCBLKS = 48, CALLS = 256 };
 #define BLOCKS (UINT64_MAX >> (64 - NCBLKS))
 
-/* Arguments of a call; which is the kind of a request or the block. */
+/* Arguments of a call; which is the kind of a request or the block, ta names
+ * RCID and MCID in a device context. */
 struct arguments {
-    uint64_t rcid, mcid, at, which, ctl;
+    uint64_t rcid, mcid, at, which, ctl, ta;
     uint32_t bytes;
 };
 
@@ -112,6 +113,7 @@ static void make_list(const struct setup *s, int mixed)
             .rcid = upto(s->nr), .mcid = upto(s->nm), .at = upto(s->na),
             .which = upto(2), .bytes = (uint32_t)upto(64),
             .ctl = cbqri_alloc_ctl(CBQRI_CONFIG_LIMIT, 0, rcid)};
+        list[i].ta = cbqri_dc_ta(list[i].rcid, list[i].mcid);
     }
 }
 

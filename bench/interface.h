@@ -18,6 +18,9 @@ struct interface {
     uint64_t (*bandwidth_request)(BANDWIDTH_SLICES(), uint64_t rcid,
                                   uint64_t mcid, uint64_t at, uint64_t kind,
                                   uint32_t bytes, uint64_t *granted);
+    uint64_t (*bandwidth_device_request)(BANDWIDTH_SLICES(), uint64_t mode,
+                                         uint64_t word, uint64_t at, uint64_t kind,
+                                         uint32_t bytes, uint64_t *granted);
     uint64_t (*bandwidth_end_window)(BANDWIDTH_SLICES());
     uint64_t (*capacity_reset)(uint64_t ncblks, uint64_t nr, uint64_t na,
                                uint64_t nm, uint64_t w, CAPACITY_SLICES());
@@ -35,6 +38,7 @@ struct interface {
     {                                                                          \
         label, JOIN(prefix, bandwidth_reset), JOIN(prefix, bandwidth_read),    \
             JOIN(prefix, bandwidth_write), JOIN(prefix, bandwidth_request),    \
+            JOIN(prefix, bandwidth_device_request),                            \
             JOIN(prefix, bandwidth_end_window), JOIN(prefix, capacity_reset),  \
             JOIN(prefix, capacity_read), JOIN(prefix, capacity_write),         \
             JOIN(prefix, capacity_fill), JOIN(prefix, capacity_evict)          \

@@ -29,7 +29,8 @@ enum {
     REFUSED_OFFSET,
     REFUSED_VALUE,
     REFUSED_IDENTIFIER,
-    REFUSED_BLOCK
+    REFUSED_BLOCK,
+    REFUSED_DEVICE_CONTEXT
 };
 
 enum { CAPABILITIES = 0, MON_CTL = 8, MON_CTR_VAL = 16, ALLOC_CTL = 24, ALLOC = 32, END = 40 };
@@ -608,6 +609,27 @@ static uint64_t grant(struct bandwidth *b, uint64_t pair, uint64_t bytes)
     return own + extra;
 }
 
+/* The request of an opened controller; out_of_range is the refusal where an
+ * identifier is. */
+static uint64_t request(struct bandwidth *b, uint64_t out_of_range, uint64_t rcid,
+                        uint64_t mcid, uint64_t at, uint64_t kind, uint32_t bytes,
+                        uint64_t *granted)
+{
+    if (rcid >= b->r.nr || mcid >= b->r.nm)
+        return out_of_range;
+    if (at >= b->r.na)
+        at = 0;
+    uint64_t row = rcid * b->r.na;
+    uint32_t word = load32(b->active, row + at);
+    if (word == 0)
+        return 0;
+    uint64_t holder = word & USE_SHARED ? field(word, SHARED_AT_LOW, 3) : at;
+    *granted = grant(b, row + holder, bytes);
+    count_bytes(b, mcid, at, kind, *granted);
+    bandwidth_save(b);
+    return 0;
+}
+
 /* Adds to or takes from a matching occupancy counter, within 0 to 2^W - 1. */
 static void count_block(struct capacity *c, uint64_t mcid, uint64_t at, bool fill)
 {
@@ -703,19 +725,23 @@ uint64_t NAME(bandwidth_request)(BANDWIDTH_SLICES(), uint64_t rcid,
     uint64_t refusal = bandwidth_open(&b, BANDWIDTH_PASSED);
     if (refusal)
         return refusal;
-    if (rcid >= b.r.nr || mcid >= b.r.nm)
-        return REFUSED_IDENTIFIER;
-    if (at >= b.r.na)
-        at = 0;
-    uint64_t row = rcid * b.r.na;
-    uint32_t word = load32(active, row + at);
-    if (word == 0)
-        return 0;
-    uint64_t holder = word & USE_SHARED ? field(word, SHARED_AT_LOW, 3) : at;
-    *granted = grant(&b, row + holder, bytes);
-    count_bytes(&b, mcid, at, kind, *granted);
-    bandwidth_save(&b);
-    return 0;
+    return request(&b, REFUSED_IDENTIFIER, rcid, mcid, at, kind, bytes, granted);
+}
+
+uint64_t NAME(bandwidth_device_request)(BANDWIDTH_SLICES(), uint64_t mode,
+                                        uint64_t word, uint64_t at, uint64_t kind,
+                                        uint32_t bytes, uint64_t *granted)
+{
+    struct bandwidth b;
+    *granted = 0;
+    uint64_t refusal = bandwidth_open(&b, BANDWIDTH_PASSED);
+    if (refusal)
+        return refusal;
+    if (mode <= 1) /* off or bare: iommu_qosid */
+        return request(&b, REFUSED_IDENTIFIER, field(word, 0, 12), field(word, 16, 12), at,
+                       kind, bytes, granted);
+    return request(&b, REFUSED_DEVICE_CONTEXT, field(word, 40, 12), field(word, 52, 12), at,
+                   kind, bytes, granted); /* DC.ta */
 }
 
 uint64_t NAME(bandwidth_end_window)(BANDWIDTH_SLICES())

@@ -39,6 +39,7 @@ static void differs(const struct controller *k, const struct interface *f, const
            c->value);
     printf("  rcid %" PRIu64 " mcid %" PRIu64 " at %" PRIu64 " %" PRIu64 " bytes %" PRIu32 "\n",
            c->rcid, c->mcid, c->at, c->which, c->bytes);
+    printf("  mode %" PRIu64 " word %" PRIx64 "\n", c->mode, c->word);
     exit(1);
 }
 

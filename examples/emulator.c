@@ -4,8 +4,8 @@
  *
  *     gcc emulator.c $(pkg-config --cflags --libs cbqri) -o emulator
  *
- * It has three parts: the machine (buffers, address map, traffic), the driver
- * (reads and writes by address alone), and the story that main tells.
+ * It has three parts: the machine (buffers, address map, traffic, devices), the
+ * driver (reads and writes by address alone), and the story that main tells.
  */
 #include <cbqri.h>
 
@@ -126,6 +126,26 @@ static void end_window(int window)
     must(cbqri_bw_end_window(&bw), "window end");
 }
 
+/* ---- The machine: devices behind an IOMMU ---- */
+
+/* As the guest has set them; DC.ta stands in the device directory in its memory. */
+static uint64_t iommu_mode = CBQRI_IOMMU_BARE, iommu_qosid, dc_ta[2];
+
+/* A bad device context is the guest's: this IOMMU reports it, and nothing is granted. */
+static void dma(unsigned device, int write, uint32_t bytes)
+{
+    uint64_t word = iommu_mode <= CBQRI_IOMMU_BARE ? iommu_qosid : dc_ta[device];
+    uint64_t granted, refusal;
+    refusal = cbqri_bw_device_request(&bw, iommu_mode, word, 0, (uint64_t)write, bytes, &granted);
+    printf("  device %u %s %4" PRIu32 ": ", device, write ? "writes" : "reads ", bytes);
+    if (refusal == CBQRI_REFUSED_DEVICE_CONTEXT) {
+        printf("DDT entry misconfigured\n");
+        return;
+    }
+    must(refusal, "device's request");
+    printf("%4" PRIu64 " granted\n", granted);
+}
+
 /* ---- The driver: it knows base addresses and registers only ---- */
 
 static uint64_t driver_operation(uint64_t base, uint64_t ctl_offset, uint64_t ctl)
@@ -209,6 +229,20 @@ static void bandwidth_story(void)
     mmio_read(BW_BASE + 12, 8); /* no multiple of 8 */
 }
 
+static void device_story(void)
+{
+    printf("\n");
+    driver_event(BW_BASE, 3, CBQRI_EVENT_BYTES, 0, 0);
+    dma(0, 0, 2500); /* bare: RCID 0 of iommu_qosid, 1,920 reserved and 580 of the pool */
+    iommu_mode = CBQRI_IOMMU_DIRECTORY;
+    dc_ta[0] = cbqri_dc_ta(2, 3);
+    dc_ta[1] = cbqri_dc_ta(NR, 3);
+    dma(0, 1, 1500); /* RCID 2 of its context: 1,280 reserved; Mweight 0 */
+    dma(1, 1, 1500); /* there is no RCID 4 */
+    end_window(3);
+    driver_counter(BW_BASE, 3); /* the 1,280 */
+}
+
 static void capacity_story(void)
 {
     printf("\n");
@@ -240,6 +274,7 @@ int main(void)
     must(cbqri_cc_reset(&cc, &cc_setup), "reset");
     driver_probe();
     bandwidth_story();
+    device_story();
     capacity_story();
     return 0;
 }

@@ -33,6 +33,8 @@ COUNT(bandwidth_reset, NBWBLKS, MRBWB, size->nr, size->na, size->nm, Q, W, BANDW
 COUNT(bandwidth_read, BANDWIDTH, 8, CBQRI_BW_ALLOC, &out)
 COUNT(bandwidth_write, BANDWIDTH, 8, CBQRI_ALLOC_CTL, a->ctl)
 COUNT(bandwidth_request, BANDWIDTH, a->rcid, a->mcid, a->at, a->which, a->bytes, &out)
+COUNT(bandwidth_device_request, BANDWIDTH, CBQRI_IOMMU_DIRECTORY, a->ta, a->at, a->which, a->bytes,
+      &out)
 COUNT(bandwidth_end_window, BANDWIDTH)
 COUNT(capacity_reset, NCBLKS, size->nr, size->na, size->nm, W, CAPACITY)
 COUNT(capacity_read, CAPACITY, 8, CBQRI_BLOCK_MASK, &out)
@@ -46,8 +48,9 @@ static const struct {
     uint64_t (*count)(const struct arguments *a);
 } entries[] = {
     NAMED(bandwidth_reset), NAMED(bandwidth_read), NAMED(bandwidth_write),
-    NAMED(bandwidth_request), NAMED(bandwidth_end_window), NAMED(capacity_reset),
-    NAMED(capacity_read), NAMED(capacity_write), NAMED(capacity_fill), NAMED(capacity_evict),
+    NAMED(bandwidth_request), NAMED(bandwidth_device_request), NAMED(bandwidth_end_window),
+    NAMED(capacity_reset), NAMED(capacity_read), NAMED(capacity_write), NAMED(capacity_fill),
+    NAMED(capacity_evict),
 };
 enum { ENTRIES = sizeof entries / sizeof entries[0] };
 

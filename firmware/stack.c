@@ -65,6 +65,8 @@ ENTRY(bandwidth_reset, 100, 80, nr, na, nm, 64, 24, BANDWIDTH_OF(&bw))
 ENTRY(bandwidth_read, BANDWIDTH_OF(&bw), 8, offset, &out)
 ENTRY(bandwidth_write, BANDWIDTH_OF(&bw), 8, offset, value)
 ENTRY(bandwidth_request, BANDWIDTH_OF(&bw), 0, 0, 0, 0, 6000, &out)
+ENTRY(bandwidth_device_request, BANDWIDTH_OF(&bw), CBQRI_IOMMU_DIRECTORY, cbqri_dc_ta(0, 0), 0, 0,
+      6000, &out)
 ENTRY(bandwidth_end_window, BANDWIDTH_OF(&bw))
 ENTRY(capacity_reset, 40, nr, na, nm, 24, CAPACITY_OF(&cc))
 ENTRY(capacity_read, CAPACITY_OF(&cc), 8, offset, &out)
@@ -75,8 +77,9 @@ ENTRY(capacity_evict, CAPACITY_OF(&cc), 0, 0, 0, 3)
 #define NAMED(name) {"cbqri_" #name, name}
 static const struct { const char *name; uint64_t (*call)(void); } entries[] = {
     NAMED(bandwidth_reset), NAMED(bandwidth_read), NAMED(bandwidth_write),
-    NAMED(bandwidth_request), NAMED(bandwidth_end_window), NAMED(capacity_reset),
-    NAMED(capacity_read), NAMED(capacity_write), NAMED(capacity_fill), NAMED(capacity_evict),
+    NAMED(bandwidth_request), NAMED(bandwidth_device_request), NAMED(bandwidth_end_window),
+    NAMED(capacity_reset), NAMED(capacity_read), NAMED(capacity_write), NAMED(capacity_fill),
+    NAMED(capacity_evict),
 };
 
 static uint64_t refused;

@@ -1,10 +1,10 @@
 /*
- * The cases of rules P1 to P12 with their numbers, then random calls on both
- * controllers from a fixed seed. Its output is the same on every machine: a line
- * for each 100 calls has their 100 answers (0, or the refusal's number) and a
- * checksum of all that the calls so far have handed back and left in record and
- * tables. It ends with 1 where a case has another number, or some answer never
- * came up.
+ * The cases of rules P1 to P12 with their numbers, a few of a device's request,
+ * then random calls on both controllers from a fixed seed. Its output is the
+ * same on every machine: a line for each 100 calls has their 100 answers (0, or
+ * the refusal's number) and a checksum of all that the calls so far have handed
+ * back and left in record and tables. It ends with 1 where a case has another
+ * number, or some answer never came up.
  */
 #include "../bench/calls.h"
 
@@ -60,6 +60,23 @@ static uint64_t granted(uint64_t rcid, uint64_t at, uint32_t bytes)
     return given;
 }
 
+static uint64_t device_granted(uint64_t mode, uint64_t word, uint64_t at, uint32_t bytes)
+{
+    uint64_t given = 0;
+    failed |= cbqri_bandwidth_device_request(BANDWIDTH_OF(&b), mode, word, at, 0, bytes,
+                                             &given) != 0;
+    return given;
+}
+
+static uint64_t device_refusal(uint64_t mode, uint64_t word)
+{
+    uint64_t given = 1;
+    uint64_t answer = cbqri_bandwidth_device_request(BANDWIDTH_OF(&b), mode, word, 0, 0, 10,
+                                                     &given);
+    failed |= given != 0;
+    return answer;
+}
+
 static void settings_cases(void)
 {
     set_up(2);
@@ -85,6 +102,24 @@ static void window_cases(void)
     expect("P9 of the pool", get_word(b.record, 11, 8), 80);
     expect("P10", cbqri_status(operation(CBQRI_MON_CTL, 0x100201)), 1);
     expect("P10 with event 4", cbqri_status(operation(CBQRI_MON_CTL, 0x400201)), 4);
+}
+
+/* After the window cases: RCID 1 has used its reservation, the pool has 1,200
+ * left, and MCID 2 counts all bytes. */
+static void device_cases(void)
+{
+    expect("device, bare", device_granted(CBQRI_IOMMU_BARE, 0x00010002, 0, 300), 300);
+    expect("device, off", device_granted(CBQRI_IOMMU_OFF, UINT64_C(0xfffffffff003f002), 0, 900),
+           900);
+    expect("device, off, of the reservation", get_word(b.used, 2 * 2 + 0, 4), 1200);
+    expect("device, directory", device_granted(CBQRI_IOMMU_DIRECTORY, cbqri_dc_ta(1, 2), 1, 700),
+           700);
+    expect("device, mode 3", device_granted(3, UINT64_C(0x002001ffffffffff), 1, 2000), 500);
+    expect("device, MCID 2", get_word(b.counters, 2, 8), 1200);
+    expect("device, bare, RCID 4", device_refusal(CBQRI_IOMMU_BARE, cbqri_iommu_qosid(4, 0)), 7);
+    expect("device, off, MCID 4", device_refusal(CBQRI_IOMMU_OFF, cbqri_iommu_qosid(0, 4)), 7);
+    expect("device, context, RCID 4", device_refusal(CBQRI_IOMMU_DIRECTORY, cbqri_dc_ta(4, 0)), 9);
+    expect("device, context, MCID 4", device_refusal(UINT64_MAX, cbqri_dc_ta(0, 4)), 9);
 }
 
 static void lone_cases(void)
@@ -130,27 +165,28 @@ static void trace_call(const struct controller *k, const struct slice *list, con
         printf("%s %5" PRIu64 " %s %016" PRIx64 "\n", k->name, t->count, t->line, t->checksum);
 }
 
-/* The calls by answer; each answer up to the last must have come up. */
+/* The calls by answer; all answers that the controller gives must have come up. */
 static void sum_up(const struct controller *k)
 {
     const struct trace *t = &traces[k->place];
     uint64_t seen[ANSWERS] = {0};
-    for (int kind = 0; kind < KINDS; kind++) {
+    for (int kind = 0; kind < KINDS && k->calls[kind]; kind++) {
         printf("%s %s:", k->name, k->calls[kind]);
-        for (int answer = 0; answer <= k->last_answer; answer++) {
+        for (int answer = 0; answer < ANSWERS; answer++) {
             printf(" %" PRIu64, t->answers[kind][answer]);
             seen[answer] += t->answers[kind][answer];
         }
         printf("\n");
     }
-    for (int answer = 0; answer <= k->last_answer; answer++)
-        failed |= seen[answer] == 0;
+    for (int answer = 0; answer < ANSWERS; answer++)
+        failed |= (seen[answer] != 0) != (k->answers >> answer & 1);
 }
 
 int main(void)
 {
     settings_cases();
     window_cases();
+    device_cases();
     lone_cases();
     for (int i = 0; i < CONTROLLERS; i++)
         while (traces[i].count < CALLS)

@@ -66,14 +66,19 @@
  * of an earlier call stays there.
  *
  * Refusals are about the caller: what a driver asks of a register shows in
- * STATUS, and the call that carried its write returns 0. Two of them a driver
- * can bring about all the same, by an access of a wrong size (4) or at a wrong
- * place (5). CBQRI leaves open what such an access does, so the emulator
- * answers as its bus does: by an access fault of the hart, or, as the example
- * does, by reading 0 and dropping the write. 6 does not come up if the emulator
- * passes on no more bytes of a value than the access has. Any other refusal is
- * a fault of the emulator; it is also the emulator that keeps an RCID and MCID
- * of its guest below NR and NM (7).
+ * STATUS, and the call that carried its write returns 0. Three of them a driver
+ * can bring about all the same.
+ * - An access of a wrong size (4) or at a wrong place (5). CBQRI leaves open
+ *   what it does, so the emulator answers as its bus does: by an access fault of
+ *   the hart, or, as the example does, by reading 0 and dropping the write.
+ * - A device context, in the guest's memory, with an RCID or MCID out of range
+ *   (9). The emulator answers as its IOMMU does: CBQRI has an identifier that is
+ *   wider there than the IOMMU supports reported as "DDT entry misconfigured"
+ *   (cause 259).
+ * 6 does not come up if the emulator passes on no more bytes of a value than the
+ * access has. Any other refusal is a fault of the emulator; it is also the
+ * emulator that keeps an RCID and MCID of its guest below NR and NM (7), those
+ * in iommu_qosid too.
  *
  *
  * SET-UP
@@ -155,6 +160,20 @@
  * low half, performs the operation before it returns, so BUSY reads 0; a write
  * of its high half does nothing. With NA 1 the AT and ATV of the control
  * registers are held as 0. Either half of block_mask may be written alone.
+ *
+ *
+ * DEVICES
+ *
+ * The request of a device behind an IOMMU has its RCID and MCID from a word that
+ * the emulator hands over beside the mode, the IOMMU's ddtp.iommu_mode:
+ *
+ *   mode 0 (off), 1 (bare)  iommu_qosid, the IOMMU's register
+ *                           RCID 11:0, MCID 27:16
+ *   any other (directory)   DC.ta of the device context
+ *                           RCID 51:40, MCID 63:52
+ *
+ * Modes 2, 3 and 4 are device directories of 1 to 3 levels; any other number
+ * counts as a directory too. Other bits of the word are ignored.
  */
 #ifndef CBQRI_H
 #define CBQRI_H
@@ -186,14 +205,15 @@ extern "C" {
 
 /* Refusals, in the order in which they are checked. */
 enum {
-    CBQRI_REFUSED_SETUP = 1,      /* set-up outside its ranges, or a record of another length */
-    CBQRI_REFUSED_LENGTH = 2,     /* a table of another length than the set-up says */
-    CBQRI_REFUSED_STATE = 3,      /* record or table not well formed; not checked by a reset */
-    CBQRI_REFUSED_SIZE = 4,       /* access neither of 4 nor of 8 bytes */
-    CBQRI_REFUSED_OFFSET = 5,     /* offset no multiple of the size, or the end beyond byte 40 */
-    CBQRI_REFUSED_VALUE = 6,      /* 4-byte write of a value of 2^32 or more */
-    CBQRI_REFUSED_IDENTIFIER = 7, /* RCID at or above NR, or MCID at or above NM */
-    CBQRI_REFUSED_BLOCK = 8       /* block at or above NCBLKS */
+    CBQRI_REFUSED_SETUP = 1,         /* set-up outside its ranges, or a record of another length */
+    CBQRI_REFUSED_LENGTH = 2,        /* a table of another length than the set-up says */
+    CBQRI_REFUSED_STATE = 3,         /* record or table not well formed; not checked by a reset */
+    CBQRI_REFUSED_SIZE = 4,          /* access neither of 4 nor of 8 bytes */
+    CBQRI_REFUSED_OFFSET = 5,        /* offset no multiple of the size, or the end beyond byte 40 */
+    CBQRI_REFUSED_VALUE = 6,         /* 4-byte write of a value of 2^32 or more */
+    CBQRI_REFUSED_IDENTIFIER = 7,    /* RCID at or above NR, or MCID at or above NM */
+    CBQRI_REFUSED_BLOCK = 8,         /* block at or above NCBLKS */
+    CBQRI_REFUSED_DEVICE_CONTEXT = 9 /* a device context with an RCID or MCID as in 7 */
 };
 
 /* Register offsets. */
@@ -236,6 +256,13 @@ enum {
     CBQRI_STATUS_MON_BAD_AT = 5       /* CONFIG_EVENT: ATV 1 and AT at or above NA */
 };
 
+/* Modes of the IOMMU. */
+enum {
+    CBQRI_IOMMU_OFF = 0,
+    CBQRI_IOMMU_BARE = 1,
+    CBQRI_IOMMU_DIRECTORY = 2 /* and any other number */
+};
+
 /* Flags of mon_ctr_val and of a counter word. */
 #define CBQRI_BANDWIDTH_INVALID (UINT64_C(1) << 62)
 #define CBQRI_BANDWIDTH_OVF (UINT64_C(1) << 63)
@@ -264,6 +291,17 @@ static inline uint64_t cbqri_holder(uint64_t rbwb, uint64_t mweight)
 static inline uint64_t cbqri_sharer(uint64_t shared_at)
 {
     return UINT64_C(0x80000000) | (shared_at & 7) << 28;
+}
+
+/* Words of the IOMMU; DC.ta with its other fields 0. */
+static inline uint64_t cbqri_iommu_qosid(uint64_t rcid, uint64_t mcid)
+{
+    return (rcid & 0xfff) | (mcid & 0xfff) << 16;
+}
+
+static inline uint64_t cbqri_dc_ta(uint64_t rcid, uint64_t mcid)
+{
+    return (rcid & 0xfff) << 40 | (mcid & 0xfff) << 52;
 }
 
 /* STATUS of a control register's word. */
@@ -345,6 +383,19 @@ uint64_t cbqri_bandwidth_request(uint8_t *record, size_t record_len,
                                  uint64_t rcid, uint64_t mcid, uint64_t at, uint64_t kind,
                                  uint32_t bytes, uint64_t *granted);
 
+/* A device's request: as cbqri_bandwidth_request, with the RCID and MCID of the
+ * word that belongs to the mode (DEVICES). Where one is out of range the refusal
+ * is 7 with the IOMMU off or bare, and 9 with a directory. Refusals: 1 to 3, 7
+ * or 9. */
+uint64_t cbqri_bandwidth_device_request(uint8_t *record, size_t record_len,
+                                        uint8_t *active, size_t active_len,
+                                        uint8_t *configured, size_t configured_len,
+                                        uint8_t *used, size_t used_len,
+                                        uint8_t *counters, size_t counters_len,
+                                        uint8_t *events, size_t events_len,
+                                        uint64_t mode, uint64_t word, uint64_t at,
+                                        uint64_t kind, uint32_t bytes, uint64_t *granted);
+
 /* Ends the window: configured settings come into force, and reservations and
  * pool are whole again. Refusals: 1 to 3. */
 uint64_t cbqri_bandwidth_end_window(uint8_t *record, size_t record_len,
@@ -418,6 +469,14 @@ static inline uint64_t cbqri_bw_request(const struct cbqri_bw *c, uint64_t rcid,
                                         uint64_t *granted)
 {
     return cbqri_bandwidth_request(CBQRI_BW_BUFFERS(c), rcid, mcid, at, kind, bytes, granted);
+}
+
+static inline uint64_t cbqri_bw_device_request(const struct cbqri_bw *c, uint64_t mode,
+                                               uint64_t word, uint64_t at, uint64_t kind,
+                                               uint32_t bytes, uint64_t *granted)
+{
+    return cbqri_bandwidth_device_request(CBQRI_BW_BUFFERS(c), mode, word, at, kind, bytes,
+                                          granted);
 }
 
 static inline uint64_t cbqri_bw_end_window(const struct cbqri_bw *c)

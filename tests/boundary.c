@@ -1,5 +1,5 @@
 /*
- * Random calls of all ten functions, accepted, refused, on damaged buffers and
+ * Random calls of all eleven functions, accepted, refused, on damaged buffers and
  * with wrong lengths, from a fixed seed: each on buffers of exactly the lengths
  * said, alone on the heap, so that valgrind sees any byte beyond them. A refused
  * call must leave record and tables as they were and hand back 0.
@@ -31,7 +31,7 @@ static void call_on_heap(const struct controller *k, const struct slice *list,
 {
     struct slice copies[MAX_SLICES];
     uint64_t one = 1, *out = block(&one, sizeof one);
-    int hands_back = c->kind == READ || c->kind == REQUEST;
+    int hands_back = c->kind == READ || c->kind == REQUEST || c->kind == DEVICE_REQUEST;
     for (int i = 0; i < k->slices; i++)
         copies[i] = (struct slice){block(list[i].at, list[i].length), list[i].length};
     uint64_t answer = k->call(&library, copies, c, out);
@@ -48,14 +48,14 @@ static void call_on_heap(const struct controller *k, const struct slice *list,
     free(out);
 }
 
-/* Prints how often each answer came up; each must have. */
+/* Prints how often each answer came up; each that the controller gives must have. */
 static int all_seen(const struct controller *k)
 {
     int seen = 1;
     printf("%s:", k->name);
-    for (int i = 0; i <= k->last_answer; i++) {
+    for (int i = 0; i < ANSWERS; i++) {
         printf(" %" PRIu64, answers[k->place][i]);
-        seen &= answers[k->place][i] > 0;
+        seen &= answers[k->place][i] > 0 || !(k->answers >> i & 1);
     }
     printf("\n");
     return seen;

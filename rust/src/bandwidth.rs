@@ -32,6 +32,12 @@ pub enum Kind {
     Write,
 }
 
+impl Kind {
+    fn number(self) -> u64 {
+        u64::from(self == Kind::Write)
+    }
+}
+
 buffers! {
     /// Record and tables of a bandwidth controller as little-endian bytes, in the
     /// layout of `cbqri.h`. `Debug` shows their lengths; see [`Bandwidth`] for what
@@ -242,10 +248,47 @@ impl Bandwidth {
         kind: Kind,
         bytes: u32,
     ) -> Result<u64, Refusal> {
-        let kind = u64::from(kind == Kind::Write);
         let mut granted = 0;
-        let buffers = &mut self.buffers;
+        let (buffers, kind) = (&mut self.buffers, kind.number());
         ffi::cbqri_bandwidth_request(buffers, rcid, mcid, at, kind, bytes, &mut granted)?;
+        Ok(granted)
+    }
+
+    /// A device's request through the IOMMU: as [`Bandwidth::request`], with the
+    /// RCID and MCID of a word of the IOMMU. Its `mode` (`ddtp.iommu_mode`) says
+    /// which word that is: register iommu_qosid if the IOMMU is off (0) or bare (1),
+    /// DC.ta of the device's context if it has a directory (any other number). Other
+    /// bits of the word are ignored.
+    ///
+    /// # Errors
+    ///
+    /// [`Refusal::Identifier`] with iommu_qosid, [`Refusal::DeviceContext`] with
+    /// DC.ta.
+    ///
+    /// ```
+    /// use cbqri::{registers as reg, Bandwidth, BandwidthSetup, Kind, Refusal};
+    ///
+    /// let setup = BandwidthSetup { nbwblks: 100, mrbwb: 80, nr: 4, na: 2, nm: 4, q: 64, w: 24 };
+    /// let mut bw = Bandwidth::new(setup).unwrap();
+    /// let mut dma = |mode, word| bw.device_request(mode, word, 0, Kind::Write, 4000);
+    /// // RCID 0 holds 80 blocks of 64 bytes, and may have the pool of 20.
+    /// assert_eq!(dma(reg::IOMMU_BARE, reg::iommu_qosid(0, 3)), Ok(4000));
+    /// assert_eq!(dma(reg::IOMMU_DIRECTORY, reg::dc_ta(0, 3)), Ok(2400));
+    /// assert_eq!(dma(reg::IOMMU_DIRECTORY, reg::dc_ta(1, 3)), Ok(0));
+    /// assert_eq!(dma(reg::IOMMU_BARE, reg::iommu_qosid(4, 0)), Err(Refusal::Identifier));
+    /// assert_eq!(dma(reg::IOMMU_DIRECTORY, reg::dc_ta(0, 4)), Err(Refusal::DeviceContext));
+    /// ```
+    pub fn device_request(
+        &mut self,
+        mode: u64,
+        word: u64,
+        at: u64,
+        kind: Kind,
+        bytes: u32,
+    ) -> Result<u64, Refusal> {
+        let mut granted = 0;
+        let (buffers, kind) = (&mut self.buffers, kind.number());
+        ffi::cbqri_bandwidth_device_request(buffers, mode, word, at, kind, bytes, &mut granted)?;
         Ok(granted)
     }
 

@@ -53,6 +53,8 @@ bandwidth!(const cbqri_bandwidth_read(; size: u64, offset: u64, value: &mut u64)
 bandwidth!(mut cbqri_bandwidth_write(; size: u64, offset: u64, value: u64));
 bandwidth!(mut cbqri_bandwidth_request(; rcid: u64, mcid: u64, at: u64, kind: u64, bytes: u32,
     granted: &mut u64));
+bandwidth!(mut cbqri_bandwidth_device_request(; mode: u64, word: u64, at: u64, kind: u64,
+    bytes: u32, granted: &mut u64));
 bandwidth!(mut cbqri_bandwidth_end_window(;));
 
 capacity!(mut cbqri_capacity_reset(ncblks, nr, na, nm, w;));

@@ -13,7 +13,9 @@
 //! control register, and the write that carried it is `Ok`. A driver's access
 //! of a wrong size or at a wrong place is [`Refusal::Size`] or
 //! [`Refusal::Offset`]: answer it as the emulated bus does, by an access fault
-//! or by reading 0 and dropping the write.
+//! or by reading 0 and dropping the write. A device context of the guest's with
+//! an RCID or MCID out of range is [`Refusal::DeviceContext`]: answer it as the
+//! emulated IOMMU does.
 //!
 //! ```
 //! use cbqri::{registers as reg, Bandwidth, BandwidthSetup, Kind, Status};
@@ -105,6 +107,8 @@ pub enum Refusal {
     Identifier = 7,
     /// Block at or above NCBLKS.
     Block = 8,
+    /// A device context with an RCID at or above NR, or an MCID at or above NM.
+    DeviceContext = 9,
 }
 
 impl Refusal {
@@ -120,7 +124,8 @@ impl Refusal {
             6 => Refusal::Value,
             7 => Refusal::Identifier,
             8 => Refusal::Block,
-            _ => unreachable!("libcbqri.a answers 0 to 8, not {answer}"),
+            9 => Refusal::DeviceContext,
+            _ => unreachable!("libcbqri.a answers 0 to 9, not {answer}"),
         })
     }
 }
@@ -136,6 +141,9 @@ impl fmt::Display for Refusal {
             Refusal::Value => "4-byte write of a value of 2^32 or more",
             Refusal::Identifier => "RCID at or above NR, or MCID at or above NM",
             Refusal::Block => "block at or above NCBLKS",
+            Refusal::DeviceContext => {
+                "a device context with an RCID at or above NR, or an MCID at or above NM"
+            }
         })
     }
 }

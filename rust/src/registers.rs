@@ -1,4 +1,5 @@
-//! Register offsets, operations, events and words, for both controllers.
+//! Register offsets, operations, events and words, for both controllers, and
+//! modes and words of the IOMMU.
 //!
 //! ```
 //! use cbqri::registers as reg;
@@ -8,6 +9,8 @@
 //! assert_eq!(reg::mon_ctl(reg::CONFIG_EVENT, 0, 2, reg::EVENT_BYTES, false), 0x100201);
 //! assert_eq!(reg::holder(30, 5), 0x0050_001e);
 //! assert_eq!(reg::sharer(1), 0x9000_0000);
+//! assert_eq!(reg::iommu_qosid(1, 2), 0x0002_0001);
+//! assert_eq!(reg::dc_ta(1, 2), 0x0020_0100_0000_0000);
 //! ```
 
 /// VER, and NBWBLKS and MRBWB, or NCBLKS and FRCID; read-only.
@@ -52,6 +55,14 @@ pub const BANDWIDTH_OVF: u64 = 1 << 63;
 /// INVALID of a capacity counter.
 pub const CAPACITY_INVALID: u64 = 1 << 63;
 
+/// Mode of an IOMMU that is off: a device has RCID and MCID of iommu_qosid.
+pub const IOMMU_OFF: u64 = 0;
+/// Mode of a bare IOMMU: likewise.
+pub const IOMMU_BARE: u64 = 1;
+/// Mode of an IOMMU with a device directory, as is any other number: a device
+/// has RCID and MCID of DC.ta.
+pub const IOMMU_DIRECTORY: u64 = 2;
+
 /// A word for alloc_ctl.
 #[must_use]
 pub const fn alloc_ctl(op: u64, at: u64, rcid: u64) -> u64 {
@@ -75,4 +86,17 @@ pub const fn holder(rbwb: u16, mweight: u8) -> u64 {
 #[must_use]
 pub const fn sharer(shared_at: u64) -> u64 {
     1 << 31 | (shared_at & 7) << 28
+}
+
+/// A word for the IOMMU's register iommu_qosid: RCID 11:0, MCID 27:16.
+#[must_use]
+pub const fn iommu_qosid(rcid: u64, mcid: u64) -> u64 {
+    (rcid & 0xfff) | (mcid & 0xfff) << 16
+}
+
+/// A word for DC.ta of a device context: RCID 51:40, MCID 63:52, its other
+/// fields 0.
+#[must_use]
+pub const fn dc_ta(rcid: u64, mcid: u64) -> u64 {
+    (rcid & 0xfff) << 40 | (mcid & 0xfff) << 52
 }

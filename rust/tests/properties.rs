@@ -1,6 +1,7 @@
 //! Random calls on random set-ups, from a fixed seed: a refused call changes
-//! nothing, what the getters show is what a driver reads, and a controller
-//! restored from its saved buffers is the same one.
+//! nothing, what the getters show is what a driver reads, a device's request is
+//! one with the identifiers of its word, and a controller restored from its
+//! saved buffers is the same one.
 
 use cbqri::registers as reg;
 use cbqri::{Bandwidth, BandwidthSetup, Capacity, CapacitySetup, Counter, Kind, Refusal, Setting};
@@ -87,6 +88,29 @@ fn bandwidth_reads(bw: &Bandwidth, random: &mut Random) {
     assert_eq!((bw.active(nr, 0), bw.configured(0, na), bw.counter(nm)), (None, None, None));
 }
 
+/// A device's request grants and leaves what a request with the identifiers of its word does,
+/// whatever the other bits are.
+fn device_requests(bw: &Bandwidth, random: &mut Random) {
+    let BandwidthSetup { nr, na, nm, .. } = bw.setup();
+    let (rcid, mcid, at) = (random.about(nr), random.about(nm), random.about(na));
+    let (other, bytes) = (random.below(u64::MAX), random.below(5000) as u32);
+    let qosid = reg::iommu_qosid(rcid, mcid) | other & !reg::iommu_qosid(!0, !0);
+    let ta = reg::dc_ta(rcid, mcid) | other & !reg::dc_ta(!0, !0);
+    let mut after = bw.clone();
+    let by_register = after.request(rcid, mcid, at, Kind::Write, bytes);
+    let by_context = by_register.map_err(|_| Refusal::DeviceContext);
+    for (mode, word, granted) in [
+        (reg::IOMMU_OFF, qosid, by_register),
+        (reg::IOMMU_BARE, qosid, by_register),
+        (reg::IOMMU_DIRECTORY, ta, by_context),
+        (u64::MAX - other / 2, ta, by_context),
+    ] {
+        let mut device = bw.clone();
+        assert_eq!(device.device_request(mode, word, at, Kind::Write, bytes), granted);
+        assert_eq!(device, after);
+    }
+}
+
 fn capacity_call(cc: &mut Capacity, random: &mut Random) -> Result<(), Refusal> {
     let CapacitySetup { ncblks, nr, na, nm, .. } = cc.setup();
     let (rcid, mcid, at) = (random.about(nr), random.about(nm), random.about(na));
@@ -140,6 +164,7 @@ fn random_calls() {
             refused += u32::from(check_call!(bw, Bandwidth, bandwidth_call, &mut random));
             refused += u32::from(check_call!(cc, Capacity, capacity_call, &mut random));
             bandwidth_reads(&bw, &mut random);
+            device_requests(&bw, &mut random);
             capacity_reads(&cc, &mut random);
         }
     }
