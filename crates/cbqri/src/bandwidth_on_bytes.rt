@@ -2,7 +2,7 @@
 use bandwidth_setup::Setup;
 ghost use mathlib.Core.Path.{_≡_};
 ghost use mathlib.Core.List.{[], _∷_};
-ghost use Rattle.bandwidth_model.specs.Calls.{reset, read, write, request, deviceRequest, endWindow};
+ghost use Rattle.bandwidth_model.specs.Calls.{reset, read, write, request, endWindow};
 ghost use Rattle.replies.specs.Replies.{reply};
 ghost use Rattle.bandwidth_bytes.specs.Bytes.{setupBy, stepBytes};
 ghost use Rattle.bandwidth_bytes.specs.View.{before, after};
@@ -122,41 +122,6 @@ pub extern "C" fn cbqri_bandwidth_request(
         events,
         rcid,
         mcid,
-        at,
-        kind,
-        bytes,
-    );
-    *granted = answer.value;
-    answer.number
-}
-
-#[no_mangle]
-pub extern "C" fn cbqri_bandwidth_device_request(
-    record: &mut [u8],
-    active: &[u8],
-    configured: &[u8],
-    used: &mut [u8],
-    counters: &mut [u8],
-    events: &[u8],
-    mode: u64,
-    word: u64,
-    at: u64,
-    kind: u64,
-    bytes: u32,
-    granted: &mut u64,
-) -> u64
-    ensures { λ r. ⌜ reply r (now (granted .exit) ∷ []) (after «record» active configured used counters events)
-        ≡ stepBytes (before «record» active configured used counters events) (deviceRequest mode word at kind bytes) ⌝ }
-{
-    let answer = bandwidth_bytes::request::device_request(
-        record,
-        active,
-        configured,
-        used,
-        counters,
-        events,
-        mode,
-        word,
         at,
         kind,
         bytes,
