@@ -185,8 +185,8 @@
  * CBQRI_VERSION is one number, to be compared: 3001 for 0.3.1. */
 #define CBQRI_VERSION_MAJOR 0
 #define CBQRI_VERSION_MINOR 3
-#define CBQRI_VERSION_PATCH 0
-#define CBQRI_VERSION_STRING "0.3.0"
+#define CBQRI_VERSION_PATCH 1
+#define CBQRI_VERSION_STRING "0.3.1"
 #define CBQRI_VERSION                                                                     \
     (CBQRI_VERSION_MAJOR * 1000000 + CBQRI_VERSION_MINOR * 1000 + CBQRI_VERSION_PATCH)
 

@@ -39,7 +39,7 @@ after r active configured used counters events = state r (active .exit .now) (co
 abbrev pub outcome : Answer → State → Outcome
 outcome a s = record { answer = a; state = s }
 
--- the number and values for each case of an answer (rules A4 and R1 to R8)
+-- the number and values for each case of an answer (rules A4 and R1 to R9)
 abbrev pub ackOf : Ack → Answer
 ackOf ack.Done = done
 ackOf (ack.Refused r) = refused (numberOf r)

@@ -1,5 +1,6 @@
 // The register words of rules P1 to P12 (P8 and P9 have none), each unpacked, written field by field and packed again.
-// Lines `all` have every bit set, so that the bits that no field names are seen to be dropped; lines `cap` are the capacity controller's.
+// Lines `all` have every bit set, so that the bits that no field names are seen to be dropped; lines `cap` are the capacity controller's,
+// lines `dev` the words of an IOMMU that name a device's RCID and MCID.
 use fields::AllocCtl;
 use fields::BandwidthCapabilities;
 use fields::BandwidthCounter;
@@ -7,6 +8,8 @@ use fields::BwAlloc;
 use fields::CapacityCapabilities;
 use fields::CapacityCounter;
 use fields::CounterSetting;
+use fields::DcTa;
+use fields::IommuQosid;
 use fields::MonCtl;
 use libc::STDOUT_FILENO;
 ghost use Rattle.fields.specs.View.{InRange, ofAllocCtl, ofMonCtl};
@@ -142,6 +145,22 @@ fn capacity_mon_ctr_val(case: &[u8], word: u64) {
     end(f.pack());
 }
 
+fn iommu_qosid(case: &[u8], word: u64) {
+    start(case, b" iommu_qosid   ", word);
+    let f = IommuQosid::unpack(word);
+    number(b"rcid", f.rcid);
+    number(b"mcid", f.mcid);
+    end(f.pack());
+}
+
+fn dc_ta(case: &[u8], word: u64) {
+    start(case, b" DC.ta         ", word);
+    let f = DcTa::unpack(word);
+    number(b"rcid", f.rcid);
+    number(b"mcid", f.mcid);
+    end(f.pack());
+}
+
 // A CONFIG_LIMIT: its operand in bw_alloc, and alloc_ctl after it.
 fn limit(case: &[u8], operand: u64, control: u64) {
     bw_alloc(case, operand);
@@ -215,9 +234,17 @@ fn capacity() {
     capacity_mon_ctr_val(b"cap", 0x8000_0000_00ff_ffff);
 }
 
+fn devices() {
+    iommu_qosid(b"dev", 0x2_0001);
+    iommu_qosid(b"dev", ALL);
+    dc_ta(b"dev", 0x0020_0100_0000_0000);
+    dc_ta(b"dev", ALL);
+}
+
 fn main() {
     allocation();
     monitoring();
     every_bit();
     capacity();
+    devices();
 }
