@@ -203,7 +203,7 @@ extern "C" {
 #define CBQRI_COUNTERS_LEN(nm) (8 * (size_t)(nm))
 #define CBQRI_EVENTS_LEN(nm) (2 * (size_t)(nm))
 
-/* Refusals, in the order in which they are checked. */
+/* Refusals. Of those that a call can give, the one with the lower number is checked first. */
 enum {
     CBQRI_REFUSED_SETUP = 1,         /* set-up outside its ranges, or a record of another length */
     CBQRI_REFUSED_LENGTH = 2,        /* a table of another length than the set-up says */

@@ -70,8 +70,8 @@ use std::fmt;
 /// number and, while that is 0, the same minor number.
 pub const VERSION: &str = env!("CARGO_PKG_VERSION");
 
-/// Why a call was refused, in the order in which it is checked. A refused call
-/// has changed nothing.
+/// Why a call was refused; of those that a call can give, the one with the lower
+/// number is checked first. A refused call has changed nothing.
 ///
 /// ```
 /// use cbqri::{Capacity, CapacitySetup, Refusal};

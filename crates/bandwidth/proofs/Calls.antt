@@ -71,10 +71,10 @@ module _ {s : State} {t : Totals} (p : Passes s t) where
 
   module _ {c : Call} {n rcid mcid at kind bytes : ℕ} (k : Requests c n rcid mcid at kind bytes) where
     pub request-unknown : (leb (s .setup .nr) rcid || leb (s .setup .nm) mcid) ≡ true → (why : Refusal) → n ≡ numberOf why → outcome (refused (numberOf why)) s ≡ step s c
-    request-unknown e why q = call-refused s c (k .other) p why (rw (k .checks (s .setup), e, q) refl)
+    request-unknown e why q = call-refused s c (k .no-reset) p why (rw (k .checks (s .setup), e, q) refl)
 
     pub request-done : (leb (s .setup .nr) rcid || leb (s .setup .nm) mcid) ≡ false → (o : Outcome) → o ≡ requested s rcid mcid at kind bytes → o ≡ step s c
-    request-done e o q = call-done s c (k .other) p (rw (k .checks (s .setup), e) refl) o (q ∙ sym (k .performs s))
+    request-done e o q = call-done s c (k .no-reset) p (rw (k .checks (s .setup), e) refl) o (q ∙ sym (k .performs s))
 
   pub end-done : (active used : List ℕ) → active ≡ s .alloc .configured → used ≡ replicate (pairs (s .setup)) 0
       → outcome done (record { setup = s .setup; alloc = s .alloc; usage = record { active = active; used = used; pool = 0 }; monitor = s .monitor }) ≡ step s endWindow

@@ -162,7 +162,7 @@ module _ {l : Lent} {h : Held} (p : Passing l h) where
     pub request-unnamed : {c : Call} (why : Refusal) {r : ℕ} → Asks c (numberOf why) rcid mcid at kind bytes → (leb (su .nr) rcid || leb (su .nm) mcid) ≡ true → r ≡ numberOf why
         → reply r (0 ∷ []) l ≡ stepBytes l c
     request-unnamed {c} why k e q =
-        rw q (rw (k .one) at (refused-then p c (k .is .other) (numberOf why) (request-unknown (p .passes) (k .is) e why refl)))
+        rw q (rw (k .one) at (refused-then p c (k .is .no-reset) (numberOf why) (request-unknown (p .passes) (k .is) e why refl)))
 
     module _ (e : (leb (su .nr) rcid || leb (su .nm) mcid) ≡ false) {a from to : ℕ} (k : a ≡ knownAt (su .na) at) (w : RowAt (su .nr) (su .na) rcid from to) where
       -- the words of the RCID
@@ -181,7 +181,7 @@ module _ {l : Lent} {h : Held} (p : Passing l h) where
           → (c : Call) (m : ℕ) → Requests c m rcid mcid at kind bytes → reply 0 (r .bytes ∷ []) (lent R (l .active) (l .configured) U N (l .events)) ≡ stepBytes l c
       served {r} g q n c m i =
           let x = p .words in
-          granted-then p c (i .other) (r .bytes) _ _
+          granted-then p c (i .no-reset) (r .bytes) _ _
           (request-done (p .passes) i e _ (serve-row (p .passes) at bytes (known-rcid (su .nr) (su .nm) rcid mcid e) k w mcid kind (g .given) refl))
           (same-bytes _ _ _ _ _ _ _ _ _ _ _ _ (q ∙ put-held 8 (lit< tt) 11 (r .pool) (l .«record») (wordsIn (h .«record»)) (x .«record»)) (x .active .bytes-are) (x .configured .bytes-are)
           (g .bytes-are (x .used .bytes-are)) (n _ _ (x .counters) (x .events)) (x .events .bytes-are))

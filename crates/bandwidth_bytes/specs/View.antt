@@ -92,7 +92,7 @@ abbrev pub Checked : Lent → Check → Type 0
 Checked l (Passed h) = Passing l h
 Checked l (Failed n) = (c : Call) → T (not (isReset c)) → refusal n (pointers c) l ≡ stepBytes l c
 
--- the call is such a request, and hands back one number
+-- the call is a request with these identifiers, and hands back one number
 pub record Asks (c : Call) (n rcid mcid at kind bytes : ℕ) : Type 0 where
   pub is : Requests c n rcid mcid at kind bytes
   pub one : pointers c ≡ 1

@@ -8,15 +8,15 @@ use Rattle.tables.proofs.Tests.{cases}
 use Rattle.access.specs.Checks as shared
 use Rattle.access.specs.Checks.{_gives_, first}
 use Rattle.devices.specs.declared.Identifiers.{Identifiers}
-use Rattle.devices.specs.Devices.{identifiersIn, outOfRange, numberBy}
+use Rattle.devices.specs.Devices.{identifiersIn, outOfRange}
 use Rattle.devices.proofs.Laws.{out-of-range-by}
 use Rattle.runs.specs.Runs as runs
 use Rattle.bandwidth_model.specs.Rules.{setupOk}
 use Rattle.bandwidth_model.specs.Calls.{request, deviceRequest, refused}
-use Rattle.bandwidth_model.specs.Model.{State, Outcome, lengthsOk, wellFormed, argumentChecks, checks, refusal, serve, serveFrom, requested, perform, step}
+use Rattle.bandwidth_model.specs.Model.{State, lengthsOk, wellFormed, argumentChecks, checks, refusal, serve, serveFrom, requested, perform, step}
 use Rattle.bandwidth_model.specs.Ledger.{noteCall, tallyCall}
 use Rattle.bandwidth_model.specs.View.{Requests}
-use Rattle.bandwidth_model.specs.Claim.{asRequest, answerBy, outcomeBy, DeviceRequests}
+use Rattle.bandwidth_model.specs.Claim.{asRequest, numberBy, answerBy, outcomeBy, DeviceRequests}
 
 module _ (mode : ℕ) where
   first-by : (a b c x : Bool) → first ((not a gives 1) ∷ (not b gives 2) ∷ (not c gives 3) ∷ (x gives outOfRange mode) ∷ []) 0
@@ -67,10 +67,10 @@ device-requests = record {
 
 pub request-is : (rcid mcid at kind bytes : ℕ) → Requests (request rcid mcid at kind bytes) 7 rcid mcid at kind bytes
 unfolding argumentChecks perform
-request-is rcid mcid at kind bytes = record { other = tt; checks = λ su. refl; performs = λ s. refl }
+request-is rcid mcid at kind bytes = record { no-reset = tt; checks = λ su. refl; performs = λ s. refl }
 
 -- a device's, by the identifiers that its word names and its refusal
 pub device-is : (mode word at kind bytes : ℕ) {ids : Identifiers} {n : ℕ} → ids ≡ identifiersIn mode word → n ≡ outOfRange mode
     → Requests (deviceRequest mode word at kind bytes) n (ids .rcid) (ids .mcid) at kind bytes
 unfolding argumentChecks perform
-device-is mode word at kind bytes e q = rw (e, q) (record { other = tt; checks = λ su. refl; performs = λ s. refl })
+device-is mode word at kind bytes e q = rw (e, q) (record { no-reset = tt; checks = λ su. refl; performs = λ s. refl })

@@ -1,4 +1,4 @@
--- The RCID and MCID of a device's request, where an IOMMU stands before the controller (rules V1 to V4).
+-- The RCID and MCID of a device's request, where an IOMMU stands before the controller (rules V1 to V3 and R9).
 use Rattle.access.specs.Logic.{Bool, not, _||_, ℕ, if_then_else_, _==_}
 use Rattle.fields.specs.Layout.{get}
 use Rattle.fields.specs.Registers.{qosidRcid, qosidMcid, taRcid, taMcid}
@@ -19,7 +19,3 @@ identifiersIn mode word =
 -- the refusal where one of them is out of range: 9 for the device context's, 7 for the register's
 unfoldable pub outOfRange : ℕ → ℕ
 outOfRange mode = if usesDirectory mode then numberOf DeviceContext else numberOf Identifier
-
--- a request's refusal as that of the device's request with the same identifiers: this number in place of 7
-unfoldable pub numberBy : ℕ → ℕ → ℕ
-numberBy mode n = if n == numberOf Identifier then outOfRange mode else n

@@ -13,7 +13,7 @@ pub struct Identifiers {
 }
 
 // Mode 0 is off and 1 is bare; any other number is a device directory.
-pub fn uses_directory(mode: u64) -> bool
+fn uses_directory(mode: u64) -> bool
     ensures { λ r. ⌜ r ≡ usesDirectory mode ⌝ }
 {
     !((mode == 0) | (mode == 1))
