@@ -12,6 +12,7 @@ use Rattle.monitor.proofs.Tallies.{tallied-counter}
 use Rattle.runs.specs.Runs.{stepOf}
 use Rattle.runs.specs.Claims.{Counted, Answering, AllRegisterReads, Statuses}
 use Rattle.runs.proofs.Checks.{reset-decided, answered}
+use Rattle.runs.proofs.Settings.{whole-lasts}
 use Rattle.runs.proofs.Registers as shared
 use Rattle.capacity_model.specs.Rules.{Setup, hasBlock}
 use Rattle.capacity_model.specs.Calls.{fill, allowed}
@@ -35,7 +36,7 @@ module _ (s : State) (l : Ledger) (i : Inv s l) where
     masks = sym (ap (λ (k : Ledger). k .masks) (i .same));
     reads = rw (ap (λ (k : Ledger). k .mask) (i .same)) (shared.reads-now registered s access.operand);
     fills = fill-is;
-    settings = shared.lasting registered setting (λ l. refl) (λ l s rcid at. refl) (λ w. refl) s l i;
+    settings = shared.lasting registered setting (λ l. refl) (λ l s rcid at. refl) (λ w. refl) (whole-lasts (λ su. su .nr) (λ su. su .na)) s l i;
   }
 
 pub claims : Claims

@@ -13,7 +13,7 @@ use Rattle.monitor.specs.Tally.{Tally}
 use Rattle.monitor.specs.Occupancy.{lastEvent}
 use Rattle.runs.specs.Claims.{controlAfter}
 use Rattle.runs.proofs.Settings as shared
-use Rattle.runs.proofs.Settings.{anew, none, sets-if, Settings}
+use Rattle.runs.proofs.Settings.{storing, anew, none, sets-if, Settings}
 use Rattle.runs.proofs.Registers.{Parts, Registered, Agrees, Invariants, statusIn, monStatusIn}
 use Rattle.capacity_model.specs.Rules.{pairs, badMask, allocSucceeds, limitOf}
 use Rattle.capacity_model.specs.Calls.{Call, kindOf}
@@ -71,7 +71,7 @@ registered = record {
 -- ---- with the ledger
 
 abbrev Sets : State → State → List (Setting ℕ) → Bool → Type 0
-Sets = shared.Sets (parts .setup) (parts .nr) (parts .na) (parts .table)
+Sets = shared.Sets (parts .setup) (storing (parts .nr) (parts .na)) (parts .table)
 
 sets-call : (s : State) (c : Call) → Sets s (perform s c .state) (settingsBy (ledgerBy s) c) (isReset (kindOf c))
 unfolding settingsBy writeAlloc writeMask tableAfter
@@ -81,18 +81,17 @@ sets-call s =
     let made : ℕ → Bool → List (Setting ℕ) = λ v x. cond (x && allocSucceeds su mask configLimit v) (limitOf su mask v ∷ []) [] in
     call-by s (λ k s′. Sets s s′ (onWrite k (λ size offset v. made v (access.writesLow offset access.allocCtl)) []) (isReset k)) (λ u. anew)
     (λ size offset v. write-by s (λ x y z t. Sets s t (made v x) false) size offset v
-    (sets-if _ _ _ _ s _ (limitOf su mask v) (allocSucceeds su mask configLimit v) refl refl
+    (sets-if _ _ _ s _ (limitOf su mask v) (allocSucceeds su mask configLimit v) refl refl
     (λ d. let ok = done-pair (su .nr) (su .na) (badMask mask) v configLimit d in (ok .rcid-low, ok .at-low)))
     (none refl refl) (none refl refl) (none refl refl))
     (λ s′ k. none (k .setup) (ap (λ (a : Allocation). a .masks) (k .alloc)))
 
-pub setting : Settings controller book Inv (parts .setup) (λ l. l .setup) (parts .nr) (parts .na) (parts .table)
+pub setting : Settings controller book Inv (parts .setup) (λ l. l .setup) (storing (parts .nr) (parts .na)) (parts .table)
 unfolding pairs
 setting = record {
   inv = keeps;
-  ends = λ p q. refl;
   same = λ s l i. sym (ap (λ (k : Ledger). k .setup) (i .same));
-  long = λ s l i. i .good .alloc .masks .long;
+  right = λ s l i. i .good .alloc .masks .long;
   sets = λ s l i c.
       subst⁻¹ (λ (k : Ledger). Sets s (perform s c .state) (settingsBy k c) (isReset (kindOf c))) (i .same) (sets-call s c);
 }

@@ -1,10 +1,10 @@
 -- What is claimed of the capacity controller after any list of calls that an accepted reset opens, by the ledger.
 use Rattle.access.specs.Logic.{_≡_, Bool, ℕ}
 use Rattle.runs.specs.Runs.{Machine, stepOf, Always}
-use Rattle.runs.specs.Claims.{Book, Reads, Counted, Lasting}
+use Rattle.runs.specs.Claims.{Book, whole, Reads, Counted, Lasting}
 use Rattle.access.specs.Access as access
 use Rattle.access.specs.Checks as checks
-use Rattle.access.specs.Pairs.{wordAt, knownAt, ofPair}
+use Rattle.access.specs.Pairs.{wordAt, knownAt}
 use Rattle.monitor.specs.Monitor.{monStatus}
 use Rattle.monitor.specs.Occupancy.{lastEvent}
 use Rattle.capacity_model.specs.Rules.{Setup, hasBlock, allocStatus}
@@ -30,7 +30,7 @@ controller = record {
 abbrev pub isReset : Call → Bool
 isReset c = checks.isReset (kindOf c)
 
--- what the ledger works out from its own masks; a setting ends another of its pair
+-- what the ledger works out from its own masks
 abbrev pub book : Book State Setup Call Answer Ledger ℕ
 book = record {
   keeper = record { start = started; noteCall = noteCall };
@@ -41,7 +41,6 @@ book = record {
   statusBy = λ l v. allocStatus (l .setup) (l .mask) v;
   monStatusBy = λ l v. monStatus (l .setup .na) (l .setup .nm) lastEvent v;
   settingsBy = settingsBy;
-  ends = λ q p. ofPair (p .rcid) (p .at) q;
   valueAt = λ l s. wordAt (l .setup .na) (s .alloc .masks);
   wordOf = λ mask. mask;
 }
@@ -55,7 +54,7 @@ pub record Claim (s : State) (l : Ledger) : Type 0 where
   pub fills : (rcid mcid at block : ℕ) (b : Bool) → stepOf controller s (fill rcid mcid at block) .answer ≡ allowed b
       → b ≡ hasBlock (wordAt (l .setup .na) (l .masks) rcid (knownAt (l .setup .na) at)) block
   -- an accepted mask that stands is in the table, and reads back
-  pub settings : Lasting controller book s l
+  pub settings : Lasting controller book whole s l
 
 pub record Claims : Type 0 where
   pub always : Always controller (book .keeper) Claim

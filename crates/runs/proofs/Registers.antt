@@ -1,8 +1,8 @@
--- Registers that are read are those of the notes, and a setting that stands reads back, of any controller that acts on its registers as the rules say.
+-- Registers that are read are those of the notes, and what stands of a setting reads back, of any controller that acts on its registers as the rules say.
 use mathlib.Core.Path.{_≡_, refl, sym, ap, _∙_}
 use mathlib.Core.Bool.{Bool, cond}
 use mathlib.Core.List.{List, [], _∷_}
-use Prim.Native.Nat.{ℕ}
+use Prim.Native.Nat.{ℕ, _<_}
 use lib.Dec.{T}
 use Rattle.fields.specs.Layout.{unpack}
 use Rattle.fields.specs.Registers.{monCtl}
@@ -10,7 +10,6 @@ use Rattle.tables.proofs.Tests.{cases, cond-yes}
 use Rattle.access.specs.Checks.{Kind, resets, writes, other}
 use Rattle.access.specs.Access as access
 use Rattle.access.specs.Pairs.{wordAt, Setting}
-use Rattle.access.proofs.Pairs.{Stored}
 use Rattle.allocation.specs.Allocation.{configLimit, readLimit, opOf, rcidOf, atOf, allocWord, operationStatus, succeeds, operandAfter}
 use Rattle.allocation.proofs.Operations.{read-done}
 use Rattle.allocation.proofs.Read.{read-fields, read-sets}
@@ -19,10 +18,10 @@ use Rattle.monitor.specs.Tally.{Tally}
 use Rattle.monitor.proofs.Control.{monWord-fields}
 use Rattle.monitor.proofs.Operations.{monStatus-lt}
 use Rattle.runs.specs.Runs.{Outcome, Event, after, noting, Keeper, Machine, stepOf, noteOf, noteAfter, Always}
-use Rattle.runs.specs.Claims.{Book, Reads, Shows, Notes, controlAfter, notes, settings, Stands, Lasting, RegisterReads, AllRegisterReads}
+use Rattle.runs.specs.Claims.{Book, Part, Reads, Shows, Notes, controlAfter, notes, settings, Stands, Lasting, RegisterReads, AllRegisterReads}
 use Rattle.runs.proofs.Steps.{done-step, done-by}
 use Rattle.runs.proofs.Laws.{Accepts, Keeps, keeps-always, note-part}
-use Rattle.runs.proofs.Settings.{Back, Settings, stands, standing}
+use Rattle.runs.proofs.Settings.{Acts, Lasts, Back, Settings, stands, standing}
 
 -- the parts of a controller's state; whether the operand of the CONFIG_LIMIT that a value performs is bad
 pub record Parts (S U : Type 0) : Type 0 where
@@ -96,36 +95,40 @@ module _ {S U C A : Type 0} {m : Machine S U C A} {q : Parts S U} (h : Registere
         ∙ ap (λ (o : Outcome S A). q .registers (o .state) .monCtl) (done-step (h .accepting) s (m .write size 8 v) (k .written))
         ∙ h .mon s (m .write size 8 v) ∙ rw (h .writes-kind size 8 v) refl
 
-    -- a setting that stands in the table reads back through READ_LIMIT
-    read-back : (p : Setting ℕ) → Stored (q .nr (q .setup s)) (q .na (q .setup s)) (q .table s) p → opOf v ≡ readLimit → rcidOf v ≡ p .rcid
-        → atOf (q .na (q .setup s)) v ≡ p .at → T (m .accepted (stepOf m s (m .write size 24 v) .answer))
-        → q .registers (stepOf m s (m .write size 24 v) .state) .operand ≡ p .value
+    -- READ_LIMIT copies the word of a pair that is there
+    read-word : (rcid at : ℕ) → rcid < q .nr (q .setup s) → at < q .na (q .setup s) → opOf v ≡ readLimit → rcidOf v ≡ rcid
+        → atOf (q .na (q .setup s)) v ≡ at → T (m .accepted (stepOf m s (m .write size 24 v) .answer))
+        → q .registers (stepOf m s (m .write size 24 v) .state) .operand ≡ wordAt (q .na (q .setup s)) (q .table s) rcid at
     unfolding operandAfter
-    read-back p k o er ea t =
+    read-word rcid at lr la o er ea t =
         let nr = q .nr (q .setup s) in
         let na = q .na (q .setup s) in
-        let d = read-done nr na (q .bad s v) v o (record { rcid-low = rw er (k .rcid-low); at-low = rw ea (k .at-low) }) in
+        let d = read-done nr na (q .bad s v) v o (record { rcid-low = rw er lr; at-low = rw ea la }) in
         ap (λ (x : Outcome S A). q .registers (x .state) .operand) (done-step (h .accepting) s (m .write size 24 v) t)
-        ∙ h .operand s size v ∙ cond-yes (succeeds nr na (q .bad s v) readLimit v) _ (q .registers s .operand) d ∙ rw (er, ea) (k .word)
+        ∙ h .operand s size v ∙ cond-yes (succeeds nr na (q .bad s v) readLimit v) _ (q .registers s .operand) d ∙ rw (er, ea) refl
 
 -- ---- settings
 
-module _ {S U C A L : Type 0} {m : Machine S U C A} {q : Parts S U} {b : Book S U C A L ℕ} {Inv : S → L → Type 0} {setupBy : L → U} (h : Registered m q)
-    (k : Settings m b Inv (q .setup) setupBy (q .nr) (q .na) (q .table)) (na : (l : L) → b .na l ≡ q .na (setupBy l))
+module _ {S U C A L : Type 0} {m : Machine S U C A} {q : Parts S U} {b : Book S U C A L ℕ} {Inv : S → L → Type 0} {setupBy : L → U} {acts : Acts (q .nr) (q .na)} {part : Part ℕ}
+    (h : Registered m q) (k : Settings m b Inv (q .setup) setupBy acts (q .table)) (na : (l : L) → b .na l ≡ q .na (setupBy l))
     (at : (l : L) (s : S) (rcid at : ℕ) → b .valueAt l s rcid at ≡ wordAt (q .na (setupBy l)) (q .table s) rcid at) (word : (w : ℕ) → b .wordOf w ≡ w) where
-  pub lasting : (s : S) (l : L) → Inv s l → Lasting m b s l
-  lasting s l i =
-      let back : (c : C) (between : List C) (p : Setting ℕ) → Stands m b s l c between p → Back (q .setup) (q .nr) (q .na) (q .table) (setupBy l) p (after (stepOf m) s (c ∷ between))
-      = stands m b (h .accepting) (standing k) s l i in
+  pub lasting : Lasts acts part → (s : S) (l : L) → Inv s l → Lasting m b part s l
+  lasting d s l i =
+      let back : (c : C) (between : List C) (p : Setting ℕ) → Stands m b part s l c between p → Back (q .setup) acts (q .table) part (setupBy l) p (after (stepOf m) s (c ∷ between))
+      = stands m b part (h .accepting) (standing k d) s l i in
       record {
         kept = λ c between p e.
             let x = back c between p e in
-            at l _ (p .rcid) (p .at) ∙ (rw (x .same) at (x .stands .word));
+            ap (part .of) (at l _ (p .rcid) (p .at)) ∙ (rw (x .same) at (x .word));
         readBack = λ c between p size v e o er ea t.
             let x = back c between p e in
             let y = after (stepOf m) s (c ∷ between) in
-            rw (word (p .value), ← read-back h y size v p (x .stands) o er (ap (λ (u : U). atOf (q .na u) v) (x .same) ∙ ap (λ (n : ℕ). atOf n v) (sym (na l)) ∙ ea) t)
-            (reads-now h (stepOf m y (m .write size 24 v) .state) access.operand);
+            record {
+              value = _;
+              same = x .word;
+              reads = rw (word _, ← read-word h y size v (p .rcid) (p .at) (x .rcid-low) (x .at-low) o er (ap (λ (u : U). atOf (q .na u) v) (x .same) ∙ ap (λ (n : ℕ). atOf n v) (sym (na l)) ∙ ea) t)
+                  (reads-now h (stepOf m y (m .write size 24 v) .state) access.operand);
+            };
       }
 
 -- ---- registers

@@ -23,12 +23,20 @@ pub record Book (S U C A L X : Type 0) : Type 0 where
   pub checksBy : L → C → List Check
   pub statusBy : L → ℕ → ℕ
   pub monStatusBy : L → ℕ → ℕ
-  -- the settings that an accepted call makes, by the ledger as it stood before the call; whether one ends another
+  -- the settings that an accepted call makes, by the ledger as it stood before the call
   pub settingsBy : L → C → List (Setting X)
-  pub ends : Setting X → Setting X → Bool
   -- the value of a pair in a state, by the set-up of this ledger; the word of a value, as READ_LIMIT copies it
   pub valueAt : L → S → ℕ → ℕ → X
   pub wordOf : X → ℕ
+
+-- a part of what a setting stores; ends q p: the setting q ends that part of the setting p
+pub record Part (X : Type 0) : Type 0 where
+  pub of : X → X
+  pub ends : Setting X → Setting X → Bool
+
+-- all of it, which ends where its pair is set again
+abbrev pub whole : {X : Type 0} → Part X
+whole = record { of = λ x. x; ends = λ q p. ofPair (p .rcid) (p .at) q }
 
 module _ {S U C A : Type 0} (m : Machine S U C A) where
   -- ---- refusals
@@ -105,25 +113,32 @@ module _ {S U C A L X : Type 0} (m : Machine S U C A) (b : Book S U C A L X) whe
   unfoldable pub settings : L → Event C A → List (Setting X)
   settings l e = if m .accepted (e .answer) then b .settingsBy l (e .call) else []
 
-  -- the event ends the setting p, or is an accepted reset
-  unfoldable pub touches : Setting X → L → Event C A → Bool
-  touches p l e = (m .accepted (e .answer) && isReset (m .kindOf (e .call))) || anyOf (λ q. b .ends q p) (settings l e)
+  -- every accepted read of bw_alloc or block_mask in the state s is that of a value whose part is that of x
+  pub record ReadsPart (part : Part X) (s : S) (x : X) : Type 0 where
+    pub value : X
+    pub same : part .of value ≡ part .of x
+    pub reads : Reads m s access.operand (b .wordOf value)
 
-  -- the setting p, made by the call c on the state s with the ledger l, still stands after the calls between
-  pub record Stands (s : S) (l : L) (c : C) (between : List C) (p : Setting X) : Type 0 where
-    pub made : List·Memᴰ p (settings l (event (stepOf m) s c))
-    pub lasts : T (untouched (noteOf m (b .keeper)) (touches p) (noteOf m (b .keeper) l (event (stepOf m) s c)) (events (stepOf m) (stepOf m s c .state) between))
+  module _ (part : Part X) where
+    -- the event ends that part of the setting p, or is an accepted reset
+    unfoldable pub touches : Setting X → L → Event C A → Bool
+    touches p l e = (m .accepted (e .answer) && isReset (m .kindOf (e .call))) || anyOf (λ q. part .ends q p) (settings l e)
 
-  -- of a setting that stands so
-  pub record Lasting (s : S) (l : L) : Type 0 where
-    -- it is the pair's value
-    pub kept : (c : C) (between : List C) (p : Setting X) → Stands s l c between p
-        → b .valueAt l (after (stepOf m) s (c ∷ between)) (p .rcid) (p .at) ≡ p .value
-    -- and reads back through a READ_LIMIT and a read of bw_alloc or block_mask
-    pub readBack : (c : C) (between : List C) (p : Setting X) (size v : ℕ) → Stands s l c between p
-        → opOf v ≡ readLimit → rcidOf v ≡ p .rcid → atOf (b .na l) v ≡ p .at
-        → T (m .accepted (stepOf m (after (stepOf m) s (c ∷ between)) (m .write size (8 * access.allocCtl) v) .answer))
-        → Reads m (stepOf m (after (stepOf m) s (c ∷ between)) (m .write size (8 * access.allocCtl) v) .state) access.operand (b .wordOf (p .value))
+    -- it stands of the setting p, made by the call c on the state s with the ledger l, after the calls between
+    pub record Stands (s : S) (l : L) (c : C) (between : List C) (p : Setting X) : Type 0 where
+      pub made : List·Memᴰ p (settings l (event (stepOf m) s c))
+      pub lasts : T (untouched (noteOf m (b .keeper)) (touches p) (noteOf m (b .keeper) l (event (stepOf m) s c)) (events (stepOf m) (stepOf m s c .state) between))
+
+    -- where it stands
+    pub record Lasting (s : S) (l : L) : Type 0 where
+      -- the pair's value has it
+      pub kept : (c : C) (between : List C) (p : Setting X) → Stands s l c between p
+          → part .of (b .valueAt l (after (stepOf m) s (c ∷ between)) (p .rcid) (p .at)) ≡ part .of (p .value)
+      -- and it reads back through a READ_LIMIT and a read of bw_alloc or block_mask
+      pub readBack : (c : C) (between : List C) (p : Setting X) (size v : ℕ) → Stands s l c between p
+          → opOf v ≡ readLimit → rcidOf v ≡ p .rcid → atOf (b .na l) v ≡ p .at
+          → T (m .accepted (stepOf m (after (stepOf m) s (c ∷ between)) (m .write size (8 * access.allocCtl) v) .answer))
+          → ReadsPart part (stepOf m (after (stepOf m) s (c ∷ between)) (m .write size (8 * access.allocCtl) v) .state) (p .value)
 
   -- ---- the claims
   pub record Answering : Type 0 where

@@ -90,7 +90,7 @@ unfolding unionBelow
 union-mod k zero f = mod-eq-of-lt (pow-pos k)
 union-mod k (suc n) f = or-mod (unionBelow n f) (f n) k ∙ ap (λ (x : ℕ). bitOr x (f n % 2 ^ k)) (union-mod k n f)
 
-union-shr : (w n : ℕ) (f : ℕ → ℕ) → unionBelow n f / 2 ^ w ≡ unionBelow n (λ i. f i / 2 ^ w)
+pub union-shr : (w n : ℕ) (f : ℕ → ℕ) → unionBelow n f / 2 ^ w ≡ unionBelow n (λ i. f i / 2 ^ w)
 unfolding unionBelow
 union-shr w zero f = div-eq-of-lt (pow-pos w)
 union-shr w (suc n) f = or-shr (unionBelow n f) (f n) w ∙ ap (λ (x : ℕ). bitOr x (f n / 2 ^ w)) (union-shr w n f)

@@ -12,9 +12,12 @@ part a n t = take n (drop a t)
 abbrev pub withPart : ℕ → ℕ → List ℕ → List ℕ → List ℕ
 withPart a n t u = take a t ++ (u ++ drop n (drop a t))
 
--- the words of an RCID, one for each AT
+-- the words of an RCID, one for each AT; the table with u in their place
 abbrev pub row : ℕ → List ℕ → ℕ → List ℕ
 row na t rcid = part (rcid * na) na t
+
+abbrev pub withRow : ℕ → List ℕ → ℕ → List ℕ → List ℕ
+withRow na t rcid u = withPart (rcid * na) na t u
 
 -- where an RCID's words begin and end; an RCID that is not there has none
 pub record RowAt (nr na rcid from to : ℕ) : Type 0 where
