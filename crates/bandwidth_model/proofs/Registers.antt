@@ -1,26 +1,31 @@
 -- What each call does to the registers and to the configured table, beside what the ledger knows of them.
 use mathlib.Core.Path.{_≡_, refl, sym, ap, subst⁻¹}
-use mathlib.Core.Bool.{Bool, false, cond, _&&_}
+use mathlib.Core.Bool.{Bool, false, not, cond, _&&_}
 use mathlib.Core.List.{List, [], _∷_}
-use Prim.Native.Nat.{ℕ}
+use Prim.Native.Nat.{ℕ, _<_}
+use lib.Dec.{T, eqb}
+use Rattle.tables.proofs.Tests.{and-in, nor-l, nor-r, not-both, eqb-in}
 use Rattle.access.specs.Access as access
 use Rattle.access.specs.Checks.{isReset, onWrite}
-use Rattle.access.specs.Pairs.{Setting}
+use Rattle.access.specs.Pairs.{Setting, ofPair}
+use Rattle.access.proofs.Pairs.{other-pair}
 use Rattle.allocation.specs.Allocation.{configLimit, allocWord, tableAfter}
 use Rattle.monitor.specs.Monitor.{cleared, writeMon, monWord}
 use Rattle.monitor.specs.Tally.{Tally}
 use Rattle.monitor.specs.Bytes.{lastEvent}
 use Rattle.runs.specs.Claims.{controlAfter}
 use Rattle.runs.proofs.Settings as shared
-use Rattle.runs.proofs.Settings.{anew, none, sets-if, Settings}
+use Rattle.runs.proofs.Settings.{Acts, Lasts, anew, none, sets-if, Settings}
 use Rattle.runs.proofs.Registers.{Parts, Registered, Agrees, Invariants, statusIn, monStatusIn}
-use Rattle.bandwidth_model.specs.Rules.{pairs, storedForm, badLimit, allocSucceeds, limitOf}
+use Rattle.bandwidth_model.specs.Rules.{Setup, weightOf, storedForm, isHolder, settled, badLimit, allocSucceeds, limitOf}
 use Rattle.bandwidth_model.specs.Calls.{Call, kindOf}
 use Rattle.bandwidth_model.specs.Model.{State, Allocation, registers, register, readAt, afterReset, writeAlloc, writeBw, writeAt, perform}
-use Rattle.bandwidth_model.specs.Rules.{Setup}
 use Rattle.bandwidth_model.specs.Ledger.{Window, Ledger, accepted, settingsBy, tally}
-use Rattle.bandwidth_model.specs.Claim.{controller, book}
+use Rattle.bandwidth_model.specs.Claim.{controller, book, butWeight, weight}
 use Rattle.bandwidth_model.proofs.Setup.{ranges}
+use Rattle.bandwidth_model.proofs.Words.{stored-stored}
+use Rattle.bandwidth_model.proofs.Settings.{TableFacts}
+use Rattle.bandwidth_model.proofs.Weights.{settled-own, settled-same, settled-without}
 use Rattle.bandwidth_model.proofs.Accepted.{accepted-limit}
 use Rattle.bandwidth_model.proofs.Steps.{accepting, call-by, write-by}
 use Rattle.bandwidth_model.proofs.Invariant.{ledgerBy, Inv, keeps}
@@ -70,8 +75,17 @@ registered = record {
 
 -- ---- with the ledger
 
+-- a setting of a pair that is there, in stored form, on a well-formed table
+pub record Fits (su : Setup) (p : Setting ℕ) : Type 0 where
+  pub rcid-low : p .rcid < su .nr
+  pub at-low : p .at < su .na
+  pub stored : p .value ≡ storedForm (p .value)
+
+abbrev pub acts : Acts (parts .nr) (parts .na)
+acts = record { put = settled; Fits = Fits; Right = TableFacts; low = λ su p h. (h .rcid-low, h .at-low) }
+
 abbrev Sets : State → State → List (Setting ℕ) → Bool → Type 0
-Sets = shared.Sets (parts .setup) (parts .nr) (parts .na) (parts .table)
+Sets = shared.Sets (parts .setup) acts (parts .table)
 
 sets-call : (s : State) (asked granted : List ℕ) (sum : ℕ) (closed : List Window) (c : Call)
     → Sets s (perform s c .state) (settingsBy (ledgerBy s asked granted sum closed) c) (isReset (kindOf c))
@@ -83,19 +97,39 @@ sets-call s asked granted sum closed =
     let made : ℕ → Bool → List (Setting ℕ) = λ v x. cond (x && allocSucceeds su conf bw configLimit v) (limitOf su bw v ∷ []) [] in
     call-by s (λ k s′. Sets s s′ (onWrite k (λ size offset v. made v (access.writesLow offset access.allocCtl)) []) (isReset k)) (λ u. anew)
     (λ size offset v. write-by s (λ x y z t. Sets s t (made v x) false) offset v
-    (sets-if _ _ _ _ s _ (limitOf su bw v) (allocSucceeds su conf bw configLimit v) refl refl (λ d. let ok = accepted-limit su conf bw v d in (ok .rcid-low, ok .at-low)))
+    (sets-if _ _ _ s _ (limitOf su bw v) (allocSucceeds su conf bw configLimit v) refl refl
+    (λ d. let ok = accepted-limit su conf bw v d in record { rcid-low = ok .rcid-low; at-low = ok .at-low; stored = stored-stored bw }))
     (none refl refl) (none refl refl) (none refl refl))
     (λ s′ k. none (k .setup) (ap (λ (a : Allocation). a .configured) (k .alloc)))
 
-pub setting : Settings controller book Inv (parts .setup) (λ l. l .setup) (parts .nr) (parts .na) (parts .table)
-unfolding pairs
+pub setting : Settings controller book Inv (parts .setup) (λ l. l .setup) acts (parts .table)
 setting = record {
   inv = keeps;
-  ends = λ p q. refl;
   same = λ s l i. sym (ap (λ (k : Ledger). k .setup) (i .same));
-  long = λ s l i. i .good .alloc .configured .long;
+  right = λ s l i. i .good .alloc .configured;
   sets = λ s l i c.
       subst⁻¹ (λ (k : Ledger). Sets s (perform s c .state) (settingsBy k c) (isReset (kindOf c))) (i .same) (sets-call s (i .asked) (i .granted) (i .sum) (i .closed) c);
+}
+
+-- what stands of a setting
+pub rest-lasts : Lasts acts butWeight
+rest-lasts = record {
+  now = λ su t q r f. ap (butWeight .of) (settled-own su t (r .long) q (f .rcid-low) (f .at-low) (f .stored));
+  other = λ su t q p r f lr la n. settled-without su t r q (f .rcid-low) (f .at-low) (p .rcid) (p .at) lr la (other-pair p q n);
+}
+
+other-row : (p q : Setting ℕ) → T (not (eqb (q .rcid) (p .rcid) && isHolder (q .value))) → T (isHolder (q .value)) → p .rcid ≡ q .rcid → ⊥
+other-row p q n h e =
+    let same = eqb (q .rcid) (p .rcid) in
+    not-both (same && isHolder (q .value)) (and-in same (isHolder (q .value)) (eqb-in (q .rcid) (p .rcid) (sym e)) h) n
+
+pub weight-lasts : Lasts acts weight
+weight-lasts = record {
+  now = λ su t q r f. ap weightOf (settled-own su t (r .long) q (f .rcid-low) (f .at-low) (f .stored));
+  other = λ su t q p r f lr la n.
+      let pair = ofPair (p .rcid) (p .at) q in
+      let row = eqb (q .rcid) (p .rcid) && isHolder (q .value) in
+      ap weightOf (settled-same su t (r .long) q (f .rcid-low) (f .at-low) (p .rcid) (p .at) la (other-pair p q (nor-l pair row n)) (other-row p q (nor-r pair row n)));
 }
 
 agreeing : (s : State) (l : Ledger) → Inv s l → Agrees controller parts book s l
