@@ -63,6 +63,7 @@ module _ (l : Lent) (r : Record) (w : wordsIn r ≡ wordsOf 8 12 (l .«record»)
       let n = held-ranges in (
         record { active-in = omega (arith, g .active-long); configured-in = omega (arith, g .configured-long); used-in = omega (arith, g .used-long) },
         record {
+          na-low = n .na-low;
           na-high = n .na-high;
           q-low = n .q-low;
           q-high = n .q-high;

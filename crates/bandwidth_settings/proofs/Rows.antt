@@ -16,12 +16,12 @@ use Rattle.access.specs.Checks.{_gives_, first}
 use Rattle.access.specs.Pairs.{pair, wordAt}
 use Rattle.allocation.specs.Allocation.{configLimit, readLimit, opOf, rcidOf, atOf, validOp, operationStatus, succeeds, tableAfter, operandAfter}
 use Rattle.allocation.proofs.Operations.{done-pair}
-use Rattle.bandwidth_model.specs.Rules.{Setup, pairs, sharedAtOf, isHolder, storedForm, reserved, total, badHolder, shares, badSharer, badOperand, badLimit, limitOf, settled, configuredAfter, bwAfter}
+use Rattle.bandwidth_model.specs.Rules.{Setup, pairs, sharedAtOf, isHolder, storedForm, reserved, total, badHolder, shares, badSharer, badOperand, badLimit, limitOf, settledRow, settled, configuredAfter, bwAfter}
 use Rattle.bandwidth_model.specs.Model.{Allocation, writeAlloc}
 use Rattle.bandwidth_model.proofs.Words.{reserved-0, reserved-le}
 use Rattle.bandwidth_model.proofs.Settings.{total-set, place-inside}
 use Rattle.bandwidth_settings.specs.View.{allocation, Ready}
-use Rattle.bandwidth_settings.specs.Rows.{badHolderIn, sharesIn, badSharerIn, badOperandIn, settledIn, writeRow, Reserves}
+use Rattle.bandwidth_settings.specs.Rows.{badHolderIn, sharesIn, badSharerIn, badOperandIn, writeRow, Reserves}
 
 -- ---- the words of an RCID that is there
 
@@ -133,12 +133,12 @@ module _ {su : Setup} {table : List ℕ} {sum : ℕ} (r : Ready su table sum) wh
         (cases (λ d. cond d (getD named (atOf (su .na) v) 0) bw ≡ cond d (wordAt (su .na) table (rcidOf v) (atOf (su .na) v)) bw) (succeeds (su .nr) (su .na) (badLimit su table bw v) readLimit v)
         (λ t. let p = done-pair (su .nr) (su .na) (badLimit su table bw v) v readLimit t in row-word w (p .rcid-low) table (atOf (su .na) v) (p .at-low)) (λ n. refl))
 
-    -- CONFIG_LIMIT sets the table's word
-    table-same : withPart from (to - from) table (tableAfter (su .nr) (su .na) bad named (settledIn named (atOf (su .na) v) (storedForm bw)) v) ≡ configuredAfter su table bw v
-    unfolding tableAfter
+    -- CONFIG_LIMIT settles the table's row
+    table-same : withPart from (to - from) table (tableAfter (su .nr) (su .na) bad named (settledRow named (atOf (su .na) v) (storedForm bw)) v) ≡ configuredAfter su table bw v
+    unfolding tableAfter settled
     table-same = rw (done-same configLimit)
-        (cases (λ d. withPart from (to - from) table (cond d (settledIn named (atOf (su .na) v) (storedForm bw)) named) ≡ cond d (settled su table (limitOf su bw v)) table) (succeeds (su .nr) (su .na) (badLimit su table bw v) configLimit v)
-        (λ t. let p = done-pair (su .nr) (su .na) (badLimit su table bw v) v configLimit t in row-set w (p .rcid-low) table (atOf (su .na) v) (p .at-low) (storedForm bw)) (λ n. part-same table from (to - from)))
+        (cases (λ d. withPart from (to - from) table (cond d (settledRow named (atOf (su .na) v) (storedForm bw)) named) ≡ cond d (settled su table (limitOf su bw v)) table) (succeeds (su .nr) (su .na) (badLimit su table bw v) configLimit v)
+        (λ t. let p = done-pair (su .nr) (su .na) (badLimit su table bw v) v configLimit t in rw (w .long (p .rcid-low), w .from-is (p .rcid-low)) refl) (λ n. part-same table from (to - from)))
 
     -- the write to alloc_ctl by the row
     pub row-write : {ctl left-bw : ℕ} {left : List ℕ} → allocation ctl left-bw left ≡ writeRow su sum bw named v

@@ -2,12 +2,11 @@
 use mathlib.Core.Bool.{Bool, not, _&&_, _||_}
 use mathlib.Core.List.{List}
 use Prim.Native.Nat.{ℕ, _+_, _-_, _≤_}
-use lib.ListN.{set}
 use Rattle.tables.specs.Notation.{if_then_else_, _==_, _≤?_, _<?_, _‼_}
 use Rattle.tables.specs.Below.{anyBelow}
 use Rattle.fields.specs.Registers as reg
 use Rattle.allocation.specs.Allocation.{readLimit, atOf, allocWord, operationStatus, succeeds, tableAfter}
-use Rattle.bandwidth_model.specs.Rules.{Setup, rbwbOf, sharedAtOf, useSharedOf, storedForm, isHolder, isSharer, reserved}
+use Rattle.bandwidth_model.specs.Rules.{Setup, rbwbOf, sharedAtOf, useSharedOf, storedForm, isHolder, isSharer, reserved, settledRow}
 use Rattle.bandwidth_model.specs.View.{Ranges}
 use Rattle.bandwidth_model.specs.Model.{Allocation}
 
@@ -31,10 +30,6 @@ unfoldable pub badOperandIn : Setup → ℕ → List ℕ → ℕ → ℕ → Boo
 badOperandIn su sum row at word =
     if useSharedOf word == 0 then badHolderIn su sum row at word else badSharerIn su row at word
 
--- what an accepted setting of an AT does to the row
-abbrev pub settledIn : List ℕ → ℕ → ℕ → List ℕ
-settledIn row at word = set row at word
-
 -- the fields of a value are stored and its operation is performed on the row of the RCID that it names
 unfoldable pub writeRow : Setup → ℕ → ℕ → List ℕ → ℕ → Allocation
 writeRow su sum bw row v =
@@ -43,7 +38,7 @@ writeRow su sum bw row v =
     record {
       ctl = allocWord (su .na) v reg.idle (operationStatus (su .nr) (su .na) bad v);
       bw = if succeeds (su .nr) (su .na) bad readLimit v then row ‼ at else bw;
-      configured = tableAfter (su .nr) (su .na) bad row (settledIn row at (storedForm bw)) v;
+      configured = tableAfter (su .nr) (su .na) bad row (settledRow row at (storedForm bw)) v;
     }
 
 -- a set-up in range, and a sum of 2048 words of 65535 blocks at most

@@ -14,12 +14,14 @@ use tables::row_at;
 use tables::store32;
 use tables::word32;
 ghost use mathlib.Core.Path.{_≡_};
-ghost use mathlib.Core.List.{[]};
+ghost use mathlib.Core.Bool.{cond};
+ghost use mathlib.Core.List.{[], map};
+ghost use Prim.Native.Nat.{_<_, _≤_};
 ghost use Rattle.fields.specs.Layout.{pack};
 ghost use Rattle.tables.specs.View.{Small};
 ghost use Rattle.tables.specs.Parts.{RowAt};
 ghost use Rattle.allocation.specs.Allocation.{rcidOf};
-ghost use Rattle.bandwidth_model.specs.Rules.{isHolder, isSharer, reserved, storedForm, bwWord};
+ghost use Rattle.bandwidth_model.specs.Rules.{isHolder, isSharer, reserved, holderWord, storedForm, bwWord, withWeight, settledRow};
 ghost use Rattle.bandwidth_model.specs.View.{Ranges};
 ghost use Rattle.bandwidth_model.specs.Model.{registersOk, writeAlloc};
 ghost use Rattle.bandwidth_setup.specs.View.{setupOf};
@@ -48,24 +50,66 @@ pub fn reserved_blocks(word: u64) -> u64
     pick(is_holder(word), f.rbwb, 0)
 }
 
+// A holder's word in stored form.
+fn holder_word(rbwb: u64, mweight: u64) -> u64
+    requires { ⌜ (rbwb < 65536) × (mweight < 256) ⌝ }
+    ensures { λ r. ⌜ r ≡ holderWord rbwb mweight ⌝ }
+{
+    let holder = BwAlloc {
+        rbwb,
+        mweight,
+        sharedat: 0,
+        useshared: 0,
+    };
+    holder.pack()
+}
+
 // The word that CONFIG_LIMIT stores: a holder's without sharedAT, a sharer's without Rbwb and Mweight.
 pub fn stored_word(word: u64) -> u64
     ensures { λ r. ⌜ Small (storedForm word) 4294967295 r ⌝ }
 {
     let f = BwAlloc::unpack(word);
-    let holder = BwAlloc {
-        rbwb: f.rbwb,
-        mweight: f.mweight,
-        sharedat: 0,
-        useshared: 0,
-    };
+    let holder = holder_word(f.rbwb, f.mweight);
     let sharer = BwAlloc {
         rbwb: 0,
         mweight: 0,
         sharedat: f.sharedat,
         useshared: 1,
     };
-    pick(f.useshared == 0, holder.pack(), sharer.pack())
+    pick(f.useshared == 0, holder, sharer.pack())
+}
+
+// A holder's word with this Mweight, and any other word as it is.
+fn with_weight(weight: u64, word: u64) -> u64
+    requires { ⌜ (weight < 256) × (word ≤ 4294967295) ⌝ }
+    ensures { λ r. ⌜ Small (withWeight weight word) 4294967295 r ⌝ }
+{
+    let f = BwAlloc::unpack(word);
+    pick(is_holder(word), holder_word(f.rbwb, weight), word)
+}
+
+// The Mweight at every holder of a row.
+fn carry_weight(row: &mut [u32], weight: u64)
+    requires { ⌜ weight < 256 ⌝ }
+    ensures { λ r. ⌜ now (row .exit) ≡ map (withWeight weight) (now (row .entry)) ⌝ }
+{
+    let mut i: usize = 0;
+    while i < row.len() {
+        row[i] = with_weight(weight, row[i] as u64) as u32;
+        i += 1;
+    }
+}
+
+// What a setting, if it is made, does to the words of its RCID.
+fn settle_row(made: bool, row: &mut [u32], at: usize, word: u64)
+    requires { ⌜ word ≤ 4294967295 ⌝ }
+    ensures { λ r. ⌜ now (row .exit) ≡ cond made (settledRow (now (row .entry)) at word) (now (row .entry)) ⌝ }
+{
+    let f = BwAlloc::unpack(word);
+    store32(made, row, at, word as u32);
+    if made & is_holder(word) {
+        carry_weight(row, f.mweight);
+    }
 }
 
 // bw_alloc after the write of a value.
@@ -106,7 +150,7 @@ pub fn write_row(setup: Setup, row: &mut [u32], reserved: u64, bw: u64, v: u64) 
     let status = alloc_status(setup.nr, setup.na, bad, v);
     let at = f.at as usize;
     let old = word32(row, at) as u64;
-    store32((f.op == 1) & (status == 1), row, at, stored_word(bw) as u32);
+    settle_row((f.op == 1) & (status == 1), row, at, stored_word(bw));
     Written {
         ctl: alloc_word(f, status),
         bw: pick((f.op == 2) & (status == 1), old, bw),

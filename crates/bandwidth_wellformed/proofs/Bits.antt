@@ -67,7 +67,7 @@ has-pow k j h =
 
 -- ---- all bits of x are bits of y
 
-covered : (n x y : ℕ) → x ≤ n → ((k : ℕ) → Has k x → Has k y) → bitOr x y ≡ y
+pub covered : (n x y : ℕ) → x ≤ n → ((k : ℕ) → Has k x → Has k y) → bitOr x y ≡ y
 covered zero x y l f = let e : x ≡ 0 = omega arith in rw e (or-zero-l y)
 covered (suc n) x y l f =
     let half : bitOr (x / 2) (y / 2) ≡ y / 2 = covered n (x / 2) (y / 2) (omega arith) (λ k h. down y k ∙ f (suc k) (sym (down x k) ∙ h)) in

@@ -1,6 +1,6 @@
 -- One turn of each pass, and the tables that a pass leaves out.
 use mathlib.Core.Path.{_≡_, refl, sym, ap, _∙_}
-use mathlib.Core.Bool.{cond}
+use mathlib.Core.Bool.{true, not, cond, _||_}
 use mathlib.Core.List.{List}
 use Prim.Native.Nat.{ℕ, _+_, _*_, _/_, _%_, _^_, _≤_, _<_}
 use native.Mathlib.Nat.{zero-mul, one-mul, suc-mul, mul-le-mul, mul-le-mul-left, mod-eq-of-lt, le-trans}
@@ -8,22 +8,23 @@ use native.Mathlib.Numerals.{add-one}
 use native.Mathlib.Omega.{arith}
 use borrow.Author.Count.{below-more}
 use lib.Bits.{bitOr, bitXor, xor-add-and, and-le-l, and-le-r}
-use lib.Dec.{eqb, eqb→eq, leb, leb→le, le→leb}
+use lib.Dec.{T, eqb, eqb→eq, leb, leb→le, le→leb}
 use lib.ListN.{length, getD}
 use lib.Pow.{pow-mono, shr-shr}
 use lib.Seq.{ext-getD}
-use Rattle.tables.specs.Below.{sumBelow}
+use Rattle.tables.specs.Below.{sumBelow, allBelow}
 use Rattle.tables.specs.View.{unionBelow}
-use Rattle.bandwidth_model.specs.Rules.{sharedAtOf, useSharedOf}
-use Rattle.tables.proofs.Tests.{cases, cond-yes, eqb-in, neqb}
-use Rattle.tables.proofs.Laws.{sum-le, sum-zero}
+use Rattle.bandwidth_model.specs.Rules.{weightOf, sharedAtOf, useSharedOf}
+use Rattle.tables.proofs.Tests.{cases, and-l, and-r, and-in, or-else, is-true, cond-yes, eqb-in, neqb}
+use Rattle.tables.proofs.Laws.{sum-le, sum-zero, all-at, all-in}
 use Rattle.tables.proofs.Parts.{row-inside}
 use Rattle.tables.proofs.Union.{zero-union}
-use Rattle.bandwidth_wellformed.specs.Bits.{formAt, blocksAt, markAt, sharingAt, overAt, firstBits, AtMost}
+use Rattle.bandwidth_wellformed.specs.Bits.{formAt, blocksAt, markAt, lacking, weightBits, rowRight, rightAt, rowPlain, overAt, AtMost}
 use Rattle.bandwidth_wellformed.specs.Tables.{TableSummed}
 use Rattle.bandwidth_wellformed.proofs.Bits.{or-ge-l, or-ge-r, Has, union-has, union-ge}
 use Rattle.bandwidth_wellformed.proofs.Forms.{unset, form-of, low-blocks}
 use Rattle.bandwidth_wellformed.proofs.Marks.{Led, held-row}
+use Rattle.bandwidth_wellformed.proofs.Mweights.{one-row, one-word}
 
 -- ---- sizes
 
@@ -84,13 +85,16 @@ module _ (na n : ℕ) (t : List ℕ) (any : ℕ) (u : any ≡ unionBelow (n * na
   word-low : (k a : ℕ) → k < n → a < na → word k a ≤ any
   word-low k a b l = rw u (union-ge (n * na) (λ i. getD t i 0) (k * na + a) (omega (arith, row-inside n na k b)))
 
-  by-row : ((k a : ℕ) → k < n → a < na → Led na (word k) a) → any < 4294967296 → unionBelow n (sharingAt na t) ≡ 0
-  unfolding sharingAt markAt
-  by-row f s = zero-union n (sharingAt na t) (λ k b. held-row na (word k) (λ a l. omega (arith, word-low k a b l)) (λ a l. f k a b l))
+  -- the row k names what it may, and its words with blocks have one Mweight
+  right : (k : ℕ) → k < n → ((a : ℕ) → a < na → Led na (word k) a) → any < 4294967296 → weightBits na t (k * na) ≡ 0 → T (rightAt na t k)
+  unfolding rightAt rowRight markAt
+  right k b f s z =
+      and-in (eqb (lacking (unionBelow na (markAt t (k * na)))) 0) (eqb (weightBits na t (k * na)) 0)
+      (eqb-in _ 0 (held-row na (word k) (λ a l. omega (arith, word-low k a b l)) f)) (eqb-in _ 0 z)
 
   -- none names an AT
-  pub names-none : any / 2 ^ 28 ≡ 0 → unionBelow n (sharingAt na t) ≡ 0
-  names-none s = by-row (λ k a b l p. absurd (omega (arith, word-low k a b l))) (omega arith)
+  names-none : any / 2 ^ 28 ≡ 0 → (k : ℕ) → k < n → (a : ℕ) → a < na → Led na (word k) a
+  names-none s k b a l p = absurd (omega (arith, word-low k a b l))
 
   -- a bit that is not in any is in no word
   bit-none : (j k a : ℕ) → k < n → a < na → any / 2 ^ j % 2 ≡ 0 → word k a / 2 ^ j % 2 ≡ 0
@@ -98,33 +102,56 @@ module _ (na n : ℕ) (t : List ℕ) (any : ℕ) (u : any ≡ unionBelow (n * na
       cases (λ c. word k a / 2 ^ j % 2 ≡ 0) (eqb (word k a / 2 ^ j % 2) 1)
       (λ h. absurd (omega (arith, word-bit j k a b l (eqb→eq (word k a / 2 ^ j % 2) 1 h)))) (λ h. let d = neqb (word k a / 2 ^ j % 2) 1 h in omega arith)
 
-  -- none names an AT other than 0, which has blocks in each row that names it
-  pub firsts-none : any / 2 ^ 28 ≡ 8 → unionBelow n (λ k. firstBits na t (k * na)) / 2 ^ 28 ≡ 0 → unionBelow n (sharingAt na t) ≡ 0
-  unfolding firstBits useSharedOf sharedAtOf
-  firsts-none s f =
-      by-row (λ k a b l p.
+  -- none names an AT other than 0, which has blocks
+  names-first : any / 2 ^ 28 ≡ 8 → (k : ℕ) → k < n → T (not (eqb (getD t (k * na) 0 % 65536) 0) || eqb (unionBelow na (word k) / 2 ^ 28) 0) → (a : ℕ) → a < na → Led na (word k) a
+  unfolding useSharedOf sharedAtOf
+  names-first s k b f a l p =
       let w = word k a in
       let named : w / 2 ^ 28 ≡ 8 =
       eight (shr-shr w 28 1) (shr-shr w 29 1) p (omega (arith, word-low k a b l)) (bit-none 28 k a b l (omega arith)) (bit-none 29 k a b l (omega arith)) (bit-none 30 k a b l (omega arith)) in
       let own : k * na ≡ k * na + sharedAtOf w = omega arith in
-      let row = unionBelow na (word k) in
-      let unheld : getD t (k * na) 0 % 65536 ≡ 0 → ⊥ =
-      λ z. omega (arith, union-ge na (word k) a l, union-ge n (λ j. firstBits na t (j * na)) k b, cond-yes (eqb (getD t (k * na) 0 % 65536) 0) row 0 (eqb-in (getD t (k * na) 0 % 65536) 0 z)) in
-      (omega arith, (omega arith, λ z. unheld (ap (λ (i : ℕ). getD t i 0 % 65536) own ∙ low-blocks (word k (sharedAtOf w)) ∙ z)))) (omega arith)
+      let held : getD t (k * na) 0 % 65536 ≡ 0 → ⊥ =
+      or-else (not (eqb (getD t (k * na) 0 % 65536) 0)) (eqb (unionBelow na (word k) / 2 ^ 28) 0) f (neqb (getD t (k * na) 0 % 65536) 0)
+      (λ z e. omega (arith, eqb→eq (unionBelow na (word k) / 2 ^ 28) 0 z, union-ge na (word k) a l)) in
+      (omega arith, (omega arith, λ z. held (ap (λ (i : ℕ). getD t i 0 % 65536) own ∙ low-blocks (word k (sharedAtOf w)) ∙ z)))
+
+  -- so plain rows are right
+  pub plain-right : T (eqb (any / 2 ^ 28) 0 || eqb (any / 2 ^ 28) 8) → T (allBelow n (λ k. rowPlain na t (k * na))) → allBelow n (rightAt na t) ≡ true
+  unfolding rowPlain
+  plain-right h f =
+      is-true _ (all-in n (rightAt na t) (λ k b.
+      let row = all-at n (λ k. rowPlain na t (k * na)) f k b in
+      let z = eqb→eq (weightBits na t (k * na)) 0 (and-l (eqb (weightBits na t (k * na)) 0) _ row) in
+      let first = and-r (eqb (weightBits na t (k * na)) 0) _ row in
+      or-else (eqb (any / 2 ^ 28) 0) (eqb (any / 2 ^ 28) 8) h
+      (λ e. let s = eqb→eq (any / 2 ^ 28) 0 e in right k b (names-none s k b) (omega arith) z)
+      (λ e. let s = eqb→eq (any / 2 ^ 28) 8 e in right k b (names-first s k b first) (omega arith) z)))
+
+  -- and so are rows that name none, without a Mweight or of one word
+  pub light-right : any / 2 ^ 20 ≡ 0 → allBelow n (rightAt na t) ≡ true
+  unfolding weightOf
+  light-right s =
+      is-true _ (all-in n (rightAt na t) (λ k b.
+      let light : (a : ℕ) → a < na → weightOf (word k a) ≡ 0 = λ a l. omega (arith, word-low k a b l) in
+      right k b (names-none (omega arith) k b) (omega arith) (one-row na t (k * na) (λ a c l m e d. light a l) (λ a c l m d e. light a l ∙ sym (light c m)))))
+
+  pub single-right : na ≡ 1 → any / 2 ^ 28 ≡ 0 → allBelow n (rightAt na t) ≡ true
+  single-right e s =
+      is-true _ (all-in n (rightAt na t) (λ k b. right k b (names-none s k b) (omega arith) (ap (λ (m : ℕ). weightBits m t (k * na)) e ∙ one-word t (k * na))))
 
 -- every word is 0
-pub zeros-summed : (na n : ℕ) (t : List ℕ) → AtMost (λ k. getD t k 0) (n * na) 0 → TableSummed na t n (record { form = 0; sharing = 0; blocks = 0 })
+pub zeros-summed : (na n : ℕ) (t : List ℕ) → AtMost (λ k. getD t k 0) (n * na) 0 → TableSummed na t n (record { form = 0; rows = true; blocks = 0 })
 unfolding formAt blocksAt
 zeros-summed na n t h =
     let none : (k : ℕ) → k < n * na → getD t k 0 ≡ 0 = λ k b. omega (arith, h .each k b) in
     record {
       form = sym (zero-union (n * na) (formAt t) (λ k b. form-of (getD t k 0) (omega (arith, none k b)) (unset (none k b))));
-      sharing = sym (names-none na n t 0 (sym (zero-union (n * na) (λ k. getD t k 0) none)) refl);
+      rows = sym (light-right na n t 0 (sym (zero-union (n * na) (λ k. getD t k 0) none)) refl);
       blocks = sym (sum-zero (n * na) (blocksAt t) (λ k b. omega (arith, none k b)));
     }
 
 -- no rows
-pub none-summed : (na : ℕ) (t : List ℕ) → TableSummed na t 0 (record { form = 0; sharing = 0; blocks = 0 })
+pub none-summed : (na : ℕ) (t : List ℕ) → TableSummed na t 0 (record { form = 0; rows = true; blocks = 0 })
 none-summed na t = zeros-summed na 0 t (record { each = λ k b. absurd (omega (arith, zero-mul na)) })
 
 -- ---- not too much used

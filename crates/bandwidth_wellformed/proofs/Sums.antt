@@ -8,10 +8,10 @@ use lib.Bits.{bitOr}
 use lib.ListN.{getD}
 use Rattle.tables.specs.View.{unionBelow}
 use Rattle.tables.specs.Parts.{part}
-use Rattle.tables.proofs.Laws.{sum-add, sum-same}
+use Rattle.tables.proofs.Laws.{sum-add, sum-same, all-add, all-same}
 use Rattle.tables.proofs.Parts.{part-at, part-length, row-inside}
 use Rattle.tables.proofs.Union.{union-none, union-same, union-add}
-use Rattle.bandwidth_wellformed.specs.Bits.{formBits, formAt, blocksAt, mark, markAt, lacking, sharingAt, overAt, AtMost, SpanAt}
+use Rattle.bandwidth_wellformed.specs.Bits.{formBits, formAt, blocksAt, mark, markAt, absent, absentAt, weightBits, rowRight, rightAt, overAt, AtMost, SpanAt}
 use Rattle.bandwidth_wellformed.specs.Tables.{Rows, Zeros, TableSummed, Summed, TableAdded, Added, SumsFit}
 use Rattle.bandwidth_wellformed.specs.declared.settings.TableSums.{TableSums}
 use Rattle.bandwidth_wellformed.specs.declared.settings.Sums.{Sums}
@@ -30,11 +30,16 @@ module _ (na n m : ℕ) (t : List ℕ) where
   word-is : (i : ℕ) → i < m * na → getD rest i 0 ≡ getD t (n * na + i) 0
   word-is i h = part-at t (n * na) (m * na) i h
 
-  sharing-is : (i : ℕ) → i < m → sharingAt na rest i ≡ sharingAt na t (n + i)
-  unfolding sharingAt markAt
-  sharing-is i h =
-      ap lacking (union-same na (markAt rest (i * na)) (markAt t ((n + i) * na))
-      (λ a l. ap (mark a) (word-is (i * na + a) (omega (arith, row-inside m na i h)) ∙ ap (λ (k : ℕ). getD t k 0) (omega (arith, add-mul n i na)))))
+  right-is : (i : ℕ) → i < m → rightAt na rest i ≡ rightAt na t (n + i)
+  unfolding rightAt rowRight markAt weightBits absentAt
+  right-is i h =
+      let same : (a : ℕ) → a < na → getD rest (i * na + a) 0 ≡ getD t ((n + i) * na + a) 0 =
+      λ a l. word-is (i * na + a) (omega (arith, row-inside m na i h)) ∙ ap (λ (k : ℕ). getD t k 0) (omega (arith, add-mul n i na)) in
+      rw (
+        union-same na _ (λ a. mark a (getD t ((n + i) * na + a) 0)) (λ a l. ap (mark a) (same a l)),
+        union-same na _ (λ a. getD t ((n + i) * na + a) 0) same,
+        union-same na _ (λ a. absent (getD t ((n + i) * na + a) 0)) (λ a l. ap absent (same a l)),
+      ) refl
 
   table-more : {x y z : TableSums} → TableSummed na t n x → TableSummed na rest m y → TableAdded x y z → TableSummed na t (n + m) z
   unfolding formAt blocksAt
@@ -44,7 +49,7 @@ module _ (na n m : ℕ) (t : List ℕ) where
       let same = sum-same (m * na) (blocksAt rest) (λ i. blocksAt t (n * na + i)) (λ i l. ap (λ (w : ℕ). w % 65536) (word-is i l)) in
       record {
         form = z .form ∙ rw (x .form, y .form, add-mul n m na) (sym forms);
-        sharing = z .sharing ∙ rw (x .sharing, y .sharing) (sym (union-more n m (sharingAt na t) (sharingAt na rest) sharing-is));
+        rows = z .rows ∙ rw (x .rows, y .rows, all-add n m (rightAt na t), all-same m (rightAt na rest) (λ i. rightAt na t (n + i)) right-is) refl;
         blocks = z .blocks ∙ rw (add-mul n m na) (omega (arith, sums, same, x .blocks, y .blocks));
       }
 
@@ -73,6 +78,7 @@ module _ {na q nr r next from to : ℕ} {active configured used : List ℕ} (s :
   span-rows w =
       let i : from + (to - from) ≤ nr * na = omega arith in
       record {
+        na-low = w .na-low;
         na-high = w .na-high;
         q-low = w .q-low;
         q-high = w .q-high;
@@ -112,7 +118,11 @@ zero-sums : {na n : ℕ} {t u : List ℕ} {s : TableSums} → TableSummed na u 0
 zero-sums {na} {n} {t} {u} e h =
     let z = zeros-summed na n t h in
     let o = none-summed na u in
-    record { form = e .form ∙ sym (o .form) ∙ z .form; sharing = e .sharing ∙ sym (o .sharing) ∙ z .sharing; blocks = e .blocks ∙ sym (o .blocks) ∙ z .blocks }
+    record {
+      form = e .form ∙ sym (o .form) ∙ z .form;
+      rows = e .rows ∙ sym (o .rows) ∙ z .rows;
+      blocks = e .blocks ∙ sym (o .blocks) ∙ z .blocks;
+    }
 
 -- they have the sums of no rows
 pub zeros-none : {na q n m : ℕ} {active configured used : List ℕ} {s : Sums} → n * na ≡ m → Zeros m active configured used → Summed na q active configured used 0 s

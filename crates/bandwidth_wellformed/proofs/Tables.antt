@@ -1,6 +1,6 @@
 -- What the passes over a settings table say of it, both ways.
 use mathlib.Core.Path.{_≡_, refl, sym, ap, subst, _∙_}
-use mathlib.Core.Bool.{Bool, true, false, _&&_}
+use mathlib.Core.Bool.{Bool, true, false, not, _&&_}
 use mathlib.Core.List.{List}
 use Prim.Native.Nat.{ℕ, _+_, _*_, _/_, _%_, _<_}
 use native.Mathlib.Nat.{le-trans, le-of-eq}
@@ -10,18 +10,18 @@ use lib.ListN.{length, getD}
 use Rattle.fields.specs.Registers as reg
 use Rattle.tables.specs.Below.{sumBelow, sumOf, allBelow}
 use Rattle.tables.specs.View.{unionBelow}
-use Rattle.tables.proofs.Tests.{and-l, and-r, and-in, eqb-in, same-test}
-use Rattle.tables.proofs.Laws.{sum-same, all-same}
+use Rattle.tables.proofs.Tests.{and-l, and-r, and-in, not-not, eqb-in, neqb, neqb-in, same-test}
+use Rattle.tables.proofs.Laws.{sum-same, all-at, all-in, all-same}
 use Rattle.access.specs.Pairs.{pair, wordAt}
 use Rattle.access.proofs.Pairs.{pair-inside, pair-of}
 use Rattle.monitor.specs.Monitor.{counterOk, settingOk}
 use Rattle.monitor.specs.Bytes.{lastEvent}
-use Rattle.bandwidth_model.specs.Rules.{Setup, pairs, rbwbOf, sharedAtOf, useSharedOf, isHolder, reserved, total}
+use Rattle.bandwidth_model.specs.Rules.{Setup, pairs, rbwbOf, weightOf, sharedAtOf, useSharedOf, isHolder, reserved, total}
 use Rattle.bandwidth_model.specs.Model.{tableOk}
 use Rattle.bandwidth_model.specs.View.{Sized}
 use Rattle.bandwidth_model.proofs.Words.{shared-0, blocks-0, shared-1, not-0, stored-fields-1, holder-in, holder-shared, not-holder-0}
-use Rattle.bandwidth_model.proofs.Settings.{View, unset, holds, follows, TableFacts, table-ok, table-facts}
-use Rattle.bandwidth_wellformed.specs.Bits.{formAt, blocksAt, markAt, sharingAt, overAt}
+use Rattle.bandwidth_model.proofs.Settings.{View, unset, holds, follows, Viewed, OneWeight, TableFacts, table-ok, table-facts}
+use Rattle.bandwidth_wellformed.specs.Bits.{formAt, blocksAt, markAt, lacking, weightBits, rowRight, rightAt, overAt}
 use Rattle.bandwidth_wellformed.specs.Tables.{tablesOk, TableSummed, SummedTables, TablesChecked}
 use Rattle.bandwidth_wellformed.specs.declared.settings.TableSums.{TableSums}
 use Rattle.bandwidth_wellformed.specs.declared.settings.Sums.{Sums}
@@ -29,6 +29,7 @@ use Rattle.tables.proofs.Union.{union-zero, zero-union, none-bad}
 use Rattle.bandwidth_wellformed.proofs.Forms as forms
 use Rattle.bandwidth_wellformed.proofs.Forms.{Form, low-blocks, shares-top, formed, form-of, form-shares, form-reserved}
 use Rattle.bandwidth_wellformed.proofs.Marks.{Led, row-held, held-row}
+use Rattle.bandwidth_wellformed.proofs.Mweights.{row-one, one-row}
 
 -- ---- one word
 
@@ -36,6 +37,13 @@ form-holder : {w : ℕ} → Form w → (rbwbOf w ≡ 0 → ⊥) → T (isHolder 
 form-holder (forms.unset e) d = absurd (d (ap rbwbOf e ∙ blocks-0))
 form-holder {w} (forms.holder s u p) d = holder-in w u p
 form-holder (forms.sharer s u n) d = absurd (d n)
+
+-- without blocks there is no Mweight
+form-weight : {w : ℕ} → Form w → rbwbOf w ≡ 0 → weightOf w ≡ 0
+unfolding weightOf
+form-weight (forms.unset e) z = ap weightOf e
+form-weight (forms.holder s u p) z = absurd (omega arith)
+form-weight {w} (forms.sharer s u n) z = ap weightOf s ∙ stored-fields-1 w (not-0 w u) .weight-is
 
 module _ {su : Setup} {t : List ℕ} {rcid at w : ℕ} where
   view-form : View su t rcid at w → Form w
@@ -70,14 +78,32 @@ module _ (su : Setup) (t : List ℕ) (long : length t ≡ pairs su) where
       ap (λ (n : ℕ). sumBelow n (blocksAt t)) (sym long)
       ∙ sum-same (length t) (blocksAt t) (λ i. reserved (getD t i 0)) (λ i l. sym (form-reserved (getD t i 0) (f i (le-trans l (le-of-eq long)))))
 
+  -- Mweights, both ways
+  agreed : Viewed su t → ((rcid : ℕ) → rcid < su .nr → weightBits (su .na) t (rcid * su .na) ≡ 0)
+      → (rcid a b : ℕ) → rcid < su .nr → a < su .na → b < su .na → OneWeight su t rcid a b
+  unfolding wordAt pair
+  agreed v z rcid a b hr ha hb h k =
+      let blocks : (a : ℕ) → a < su .na → T (isHolder (wordAt (su .na) t rcid a)) → T (not (eqb (wordAt (su .na) t rcid a % 65536) 0)) =
+      λ a ha h. neqb-in (wordAt (su .na) t rcid a % 65536) 0 (λ e. holder-blocks (v rcid a hr ha) h (sym (low-blocks (wordAt (su .na) t rcid a)) ∙ e)) in
+      row-one (su .na) t (rcid * su .na) (z rcid hr) a b ha hb (blocks a ha h) (blocks b hb k)
+
+  no-weights : TableFacts su t → (rcid : ℕ) → rcid < su .nr → weightBits (su .na) t (rcid * su .na) ≡ 0
+  unfolding wordAt pair
+  no-weights f rcid hr =
+      let word : ℕ → ℕ = wordAt (su .na) t rcid in
+      let holder : (a : ℕ) → a < su .na → T (not (eqb (word a % 65536) 0)) → T (isHolder (word a)) =
+      λ a ha d. form-holder (view-form (f .words rcid a hr ha)) (λ e. neqb (word a % 65536) 0 d (low-blocks (word a) ∙ e)) in
+      one-row (su .na) t (rcid * su .na)
+      (λ a b ha hb e d. form-weight (view-form (f .words rcid a hr ha)) (sym (low-blocks (word a)) ∙ eqb→eq (word a % 65536) 0 (not-not (eqb (word a % 65536) 0) e)))
+      (λ a b ha hb d e. f .weights rcid a b hr ha hb (holder a ha d) (holder b hb e))
+
   module _ (fit : (i : ℕ) → getD t i 0 < 4294967296) where
     -- from the passes to the facts
-    module _ (form : unionBelow (su .nr * su .na) (formAt t) ≡ 0) (rows : unionBelow (su .nr) (sharingAt (su .na) t) ≡ 0) where
+    module _ (form : unionBelow (su .nr * su .na) (formAt t) ≡ 0) (rows : (rcid : ℕ) → rcid < su .nr → lacking (unionBelow (su .na) (markAt t (rcid * su .na))) ≡ 0) where
       module _ (rcid at : ℕ) (hr : rcid < su .nr) (ha : at < su .na) where
         led : Led (su .na) (wordAt (su .na) t rcid) at
-        unfolding wordAt pair sharingAt markAt
-        led =
-            row-held (su .na) (wordAt (su .na) t rcid) (λ a l. fit (rcid * su .na + a)) (union-zero (su .nr) (sharingAt (su .na) t) rows rcid hr) at ha
+        unfolding wordAt pair markAt
+        led = row-held (su .na) (wordAt (su .na) t rcid) (λ a l. fit (rcid * su .na + a)) (rows rcid hr) at ha
 
         pair-form : Form (wordAt (su .na) t rcid at)
         unfolding pairs wordAt formAt
@@ -88,7 +114,7 @@ module _ (su : Setup) (t : List ℕ) (long : length t ≡ pairs su) where
       word : (i : ℕ) → i < pairs su → Form (getD t i 0)
       word = by-pair pair-form
 
-      view : (rcid at : ℕ) → rcid < su .nr → at < su .na → View su t rcid at (wordAt (su .na) t rcid at)
+      view : Viewed su t
       view rcid at hr ha = by (pair-form rcid at hr ha)
         where
           w : ℕ
@@ -107,11 +133,9 @@ module _ (su : Setup) (t : List ℕ) (long : length t ≡ pairs su) where
     unfolding pairs formAt
     no-form f = zero-union (su .nr * su .na) (formAt t) (λ i l. form-of (getD t i 0) (fit i) (words-form f i l))
 
-    no-rows : TableFacts su t → unionBelow (su .nr) (sharingAt (su .na) t) ≡ 0
-    unfolding wordAt pair sharingAt markAt
-    no-rows f =
-        zero-union (su .nr) (sharingAt (su .na) t)
-        (λ rcid hr. held-row (su .na) (wordAt (su .na) t rcid) (λ a l. fit (rcid * su .na + a)) (λ at ha. leads rcid at hr (f .words rcid at hr ha)))
+    no-rows : TableFacts su t → (rcid : ℕ) → rcid < su .nr → lacking (unionBelow (su .na) (markAt t (rcid * su .na))) ≡ 0
+    unfolding wordAt pair markAt
+    no-rows f rcid hr = held-row (su .na) (wordAt (su .na) t rcid) (λ a l. fit (rcid * su .na + a)) (λ at ha. leads rcid at hr (f .words rcid at hr ha))
       where
         leads : (rcid at : ℕ) → rcid < su .nr → View su t rcid at (wordAt (su .na) t rcid at) → Led (su .na) (wordAt (su .na) t rcid) at
         leads rcid at hr v p = by v
@@ -127,22 +151,32 @@ module _ (su : Setup) (t : List ℕ) (long : length t ≡ pairs su) where
             by (holds s v p) = absurd (not-0 w u v)
             by (follows s d o k h) = (u, (k, holder-blocks (f .words rcid (sharedAtOf w) hr k) h))
 
+    rows-right : TableFacts su t → T (allBelow (su .nr) (rightAt (su .na) t))
+    unfolding rightAt rowRight
+    rows-right f =
+        all-in (su .nr) (rightAt (su .na) t)
+        (λ rcid hr. and-in (eqb (lacking (unionBelow (su .na) (markAt t (rcid * su .na)))) 0) _ (eqb-in _ 0 (no-rows f rcid hr)) (eqb-in _ 0 (no-weights f rcid hr)))
+
     module _ {s : TableSums} (l : TableSummed (su .na) t (su .nr) s) where
       abbrev passes : Bool
-      passes = eqb (s .form) 0 && eqb (s .sharing) 0 && leb (s .blocks) (su .mrbwb)
+      passes = eqb (s .form) 0 && s .rows && leb (s .blocks) (su .mrbwb)
 
       there : T passes → T (tableOk su t)
+      unfolding rightAt rowRight
       there k =
           let f : T (eqb (s .form) 0) = search (and-l, and-r) in
-          let r : T (eqb (s .sharing) 0) = search (and-l, and-r) in
+          let r : T (s .rows) = search (and-l, and-r) in
           let b : T (leb (s .blocks) (su .mrbwb)) = search (and-l, and-r) in
           let nf = sym (l .form) ∙ eqb→eq (s .form) 0 f in
-          let nr = sym (l .sharing) ∙ eqb→eq (s .sharing) 0 r in
+          let row : (rcid : ℕ) → rcid < su .nr → T (rightAt (su .na) t rcid) = all-at (su .nr) (rightAt (su .na) t) (subst T (l .rows) r) in
+          let nr : (rcid : ℕ) → rcid < su .nr → lacking (unionBelow (su .na) (markAt t (rcid * su .na))) ≡ 0 = λ rcid h. eqb→eq _ 0 (and-l (eqb (lacking (unionBelow (su .na) (markAt t (rcid * su .na)))) 0) (eqb (weightBits (su .na) t (rcid * su .na)) 0) (row rcid h)) in
+          let nw : (rcid : ℕ) → rcid < su .nr → weightBits (su .na) t (rcid * su .na) ≡ 0 = λ rcid h. eqb→eq _ 0 (and-r (eqb (lacking (unionBelow (su .na) (markAt t (rcid * su .na)))) 0) _ (row rcid h)) in
           table-ok su t
           (record {
             long = long;
             bounded = le-trans (le-of-eq (sym (sums (word nf nr)) ∙ sym (l .blocks))) (leb→le (s .blocks) (su .mrbwb) b);
             words = view nf nr;
+            weights = agreed (view nf nr) nw;
           })
 
       blocks-total : T (tableOk su t) → s .blocks ≡ total t
@@ -152,7 +186,7 @@ module _ (su : Setup) (t : List ℕ) (long : length t ≡ pairs su) where
       back k =
           let f = table-facts su t long k in
           let a : T (eqb (s .form) 0) = eqb-in (s .form) 0 (l .form ∙ no-form f) in
-          let b : T (eqb (s .sharing) 0) = eqb-in (s .sharing) 0 (l .sharing ∙ no-rows f) in
+          let b : T (s .rows) = subst T (sym (l .rows)) (rows-right f) in
           let d : T (leb (s .blocks) (su .mrbwb)) = le→leb (s .blocks) (su .mrbwb) (le-trans (le-of-eq (blocks-total k)) (f .bounded)) in
           search and-in
 
@@ -202,8 +236,8 @@ module _ (su : Setup) (active configured used counters events : List ℕ) (z : S
 -- ---- from the sums of all rows
 
 pub tables-by : (su : Setup) (active configured used counters events : List ℕ) {s : Sums} {k e a c : Bool} → SummedTables su active configured used counters events s k e
-    → a ≡ (eqb (s .active .form) 0 && eqb (s .active .sharing) 0 && leb (s .active .blocks) (su .mrbwb))
-    → c ≡ (eqb (s .configured .form) 0 && eqb (s .configured .sharing) 0 && leb (s .configured .blocks) (su .mrbwb))
+    → a ≡ (eqb (s .active .form) 0 && s .active .rows && leb (s .active .blocks) (su .mrbwb))
+    → c ≡ (eqb (s .configured .form) 0 && s .configured .rows && leb (s .configured .blocks) (su .mrbwb))
     → TablesChecked su active configured used counters events
     (record { ok = a && c && eqb (s .over) 0 && k && e; active = s .active .blocks; configured = s .configured .blocks })
 unfolding pairs

@@ -1,9 +1,9 @@
 -- What the passes over a table find: bits that are all 0 where nothing is wrong.
 use Prim.Native.Nat.{ℕ, _+_, _-_, _*_, _/_, _%_, _^_, _≤_, _<_}
-use mathlib.Core.Bool.{not, cond}
+use mathlib.Core.Bool.{Bool, not, cond, _&&_, _||_}
 use mathlib.Core.Path.{_≡_}
 use mathlib.Core.List.{List}
-use lib.Bits.{bitAnd, bitOr}
+use lib.Bits.{bitAnd, bitOr, bitXor}
 use lib.Dec.{leb, eqb}
 use lib.ListN.{getD}
 use Rattle.tables.specs.Below.{sumBelow}
@@ -31,13 +31,33 @@ markAt t base a = mark a (getD t (base + a) 0)
 unfoldable pub lacking : ℕ → ℕ
 lacking m = bitOr (m % 65536) (bitOr (m / 2 ^ 16) 1) - bitOr (m / 2 ^ 16) 1
 
--- the ATs of an RCID that are shared and have no blocks, or named and not shared
-unfoldable pub sharingAt : ℕ → List ℕ → ℕ → ℕ
-sharingAt na t rcid = lacking (unionBelow na (markAt t (rcid * na)))
+-- the bits of Mweight that a word with blocks lacks, and its other bits
+unfoldable pub absent : ℕ → ℕ
+absent w = cond (not (eqb (w % 65536) 0)) (bitXor w 0x0ff00000) 0
 
--- the bits of the row from base on, where its first word has no blocks
-unfoldable pub firstBits : ℕ → List ℕ → ℕ → ℕ
-firstBits na t base = cond (eqb (getD t base 0 % 65536) 0) (unionBelow na (λ a. getD t (base + a) 0)) 0
+unfoldable pub absentAt : List ℕ → ℕ → ℕ → ℕ
+absentAt t base a = absent (getD t (base + a) 0)
+
+-- the bits of Mweight that are in both
+unfoldable pub differing : ℕ → ℕ → ℕ
+differing some less = bitAnd (bitAnd some less) 0x0ff00000
+
+-- the bits of Mweight that the row from base on has, and a word with blocks in it lacks
+unfoldable pub weightBits : ℕ → List ℕ → ℕ → ℕ
+weightBits na t base = differing (unionBelow na (λ a. getD t (base + a) 0)) (unionBelow na (absentAt t base))
+
+-- in the row from base on, every AT that is named is shared and has blocks, and the words with blocks have one Mweight
+unfoldable pub rowRight : ℕ → List ℕ → ℕ → Bool
+rowRight na t base = eqb (lacking (unionBelow na (markAt t base))) 0 && eqb (weightBits na t base) 0
+
+-- the words of an RCID
+unfoldable pub rightAt : ℕ → List ℕ → ℕ → Bool
+rightAt na t rcid = rowRight na t (rcid * na)
+
+-- what says so of a row in which no AT but 0 is named: the first word has blocks, or none names an AT
+unfoldable pub rowPlain : ℕ → List ℕ → ℕ → Bool
+rowPlain na t base =
+    eqb (weightBits na t base) 0 && (not (eqb (getD t base 0 % 65536) 0) || eqb (unionBelow na (λ a. getD t (base + a) 0) / 2 ^ 28) 0)
 
 -- all ones where more bytes are used than the blocks of the word hold
 unfoldable pub overAt : ℕ → List ℕ → List ℕ → ℕ → ℕ

@@ -14,7 +14,7 @@ use Rattle.monitor.specs.Bytes.{lastEvent}
 use Rattle.bandwidth_model.specs.Rules.{Setup, pairs, reserved, total}
 use Rattle.bandwidth_model.specs.View.{Sized}
 use Rattle.bandwidth_model.specs.Model.{tableOk}
-use Rattle.bandwidth_wellformed.specs.Bits.{formAt, blocksAt, sharingAt, overAt, AtMost}
+use Rattle.bandwidth_wellformed.specs.Bits.{formAt, blocksAt, rightAt, overAt, AtMost}
 use Rattle.bandwidth_wellformed.specs.declared.TablesOk.{TablesOk}
 use Rattle.bandwidth_wellformed.specs.declared.settings.TableSums.{TableSums}
 use Rattle.bandwidth_wellformed.specs.declared.settings.Sums.{Sums}
@@ -36,12 +36,14 @@ pub record TablesChecked (su : Setup) (inForce stored used counters events : Lis
 
 -- t has n rows
 pub record Table (na n : ℕ) (t : List ℕ) : Type 0 where
+  pub na-low : 1 ≤ na
   pub na-high : na ≤ 8
   pub long : n * na ≡ length t
   pub few : n * na ≤ 2048
 
 -- each of the three tables has n rows
 pub record Rows (na q n : ℕ) (active configured used : List ℕ) : Type 0 where
+  pub na-low : 1 ≤ na
   pub na-high : na ≤ 8
   pub q-low : 1 ≤ q
   pub q-high : q ≤ 65536
@@ -50,10 +52,10 @@ pub record Rows (na q n : ℕ) (active configured used : List ℕ) : Type 0 wher
   pub used-long : n * na ≡ length used
   pub few : n * na ≤ 2048
 
--- s is what the first n rows of a settings table hold: bits that may not be there, ATs shared without blocks, and blocks
+-- what the first n rows of a settings table hold: bits that may not be there, whether each row is right, and blocks
 pub record TableSummed (na : ℕ) (t : List ℕ) (n : ℕ) (s : TableSums) : Type 0 where
   pub form : s .form ≡ unionBelow (n * na) (formAt t)
-  pub sharing : s .sharing ≡ unionBelow n (sharingAt na t)
+  pub rows : s .rows ≡ allBelow n (rightAt na t)
   pub blocks : s .blocks ≡ sumBelow (n * na) (blocksAt t)
 
 -- the same of the first n rows of three tables
@@ -71,7 +73,7 @@ pub record Zeros (n : ℕ) (active configured used : List ℕ) : Type 0 where
 -- r is x and y together
 pub record TableAdded (x y r : TableSums) : Type 0 where
   pub form : r .form ≡ bitOr (x .form) (y .form)
-  pub sharing : r .sharing ≡ bitOr (x .sharing) (y .sharing)
+  pub rows : r .rows ≡ (x .rows && y .rows)
   pub blocks : r .blocks ≡ x .blocks + y .blocks
 
 pub record Added (x y r : Sums) : Type 0 where

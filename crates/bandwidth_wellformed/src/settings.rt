@@ -1,9 +1,9 @@
-// The settings tables and the used bytes, by sums of rows: the form of words, their sharers, the blocks reserved, the bytes used.
+// The settings tables and the used bytes, by sums of rows: the form of words, their rows, the blocks reserved, the bytes used.
 use crate::parts::all_zero;
 use crate::parts::pick;
 use crate::parts::same;
 use crate::parts::span_at;
-use crate::rows::sharing_bits;
+use crate::rows::rows_ok;
 use crate::usage::over_bits;
 ghost use mathlib.Core.Path.{_≡_};
 ghost use mathlib.Core.Bool.{_&&_};
@@ -44,10 +44,10 @@ fn scan_words(t: &[u32]) -> Scan
     Scan { any, form, blocks }
 }
 
-// What rows of a settings table hold: the bits that may not be there, the ATs shared without blocks, and the blocks.
+// What rows of a settings table hold: the bits that may not be there, whether each row is right, and the blocks.
 pub struct TableSums {
     pub form: u32,
-    pub sharing: u32,
+    pub rows: bool,
     pub blocks: u32,
 }
 
@@ -59,15 +59,15 @@ fn sum_table(t: &[u32], rows: usize, na: u32) -> TableSums
     if all_zero(t) {
         return TableSums {
             form: 0,
-            sharing: 0,
+            rows: true,
             blocks: 0,
         };
     }
     let s = scan_words(t);
-    let sharing = sharing_bits(t, rows, na, s.any);
+    let right = rows_ok(t, rows, na, s.any);
     TableSums {
         form: s.form,
-        sharing,
+        rows: right,
         blocks: s.blocks,
     }
 }
@@ -124,7 +124,7 @@ pub fn no_sums() -> Sums
 {
     let none = TableSums {
         form: 0,
-        sharing: 0,
+        rows: true,
         blocks: 0,
     };
     Sums {
@@ -140,7 +140,7 @@ fn add_table(x: TableSums, y: TableSums) -> TableSums
 {
     TableSums {
         form: x.form | y.form,
-        sharing: x.sharing | y.sharing,
+        rows: x.rows & y.rows,
         blocks: x.blocks + y.blocks,
     }
 }
@@ -194,7 +194,7 @@ pub fn sum_tables(
 
 // Whether nothing is wrong in a table, and it reserves no more blocks than it may.
 pub fn table_ok(sums: TableSums, most: u64) -> bool
-    ensures { λ r. ⌜ r ≡ (eqb (sums .form) 0 && eqb (sums .sharing) 0 && leb (sums .blocks) most) ⌝ }
+    ensures { λ r. ⌜ r ≡ (eqb (sums .form) 0 && sums .rows && leb (sums .blocks) most) ⌝ }
 {
-    (sums.form == 0) & (sums.sharing == 0) & (sums.blocks as u64 <= most)
+    (sums.form == 0) & sums.rows & (sums.blocks as u64 <= most)
 }

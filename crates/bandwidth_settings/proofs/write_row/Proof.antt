@@ -4,14 +4,14 @@ use mathlib.Core.Bool.{Bool, cond, _&&_}
 use mathlib.Core.List.{List, [], _∷_}
 use Prim.Native.Nat.{ℕ}
 use lib.Dec.{eqb}
-use lib.ListN.{getD, set}
+use lib.ListN.{getD}
 use borrow.Author.Needs.{needs}
 use Rattle.fields.specs.Layout.{pack}
 use Rattle.fields.specs.Registers.{allocCtl}
 use Rattle.fields.specs.declared.AllocCtl.{AllocCtl}
 use Rattle.allocation.specs.Allocation.{allocWord, operationStatus, succeeds, tableAfter}
 use Rattle.allocation.specs.View.{AllocFields}
-use Rattle.bandwidth_model.specs.Rules.{Setup, storedForm}
+use Rattle.bandwidth_model.specs.Rules.{Setup, storedForm, settledRow}
 use Rattle.bandwidth_settings.specs.View.{allocation}
 use Rattle.bandwidth_settings.specs.Rows.{badOperandIn, writeRow}
 use Rattle.bandwidth_settings.proofs.write_row.Statement.{statement}
@@ -19,7 +19,7 @@ use Rattle.bandwidth_settings.proofs.write_row.Tie as tie
 
 -- the write over what the callees give
 steps : (su : Setup) (sum bw v st old word ctl new : ℕ) (row left : List ℕ) (bad : Bool) (f : AllocCtl) → AllocFields (su .na) v f → bad ≡ badOperandIn su sum row (f .at) bw
-    → st ≡ operationStatus (su .nr) (su .na) bad v → old ≡ getD row (f .at) 0 → word ≡ storedForm bw → left ≡ cond (eqb (f .op) 1 && eqb st 1) (set row (f .at) word) row
+    → st ≡ operationStatus (su .nr) (su .na) bad v → old ≡ getD row (f .at) 0 → word ≡ storedForm bw → left ≡ cond (eqb (f .op) 1 && eqb st 1) (settledRow row (f .at) word) row
     → ctl ≡ pack allocCtl (0 ∷ st ∷ f .rcid ∷ f .at ∷ f .op ∷ []) → new ≡ cond (eqb (f .op) 2 && eqb st 1) old bw
     → allocation ctl new left ≡ writeRow su sum bw row v
 unfolding writeRow allocWord tableAfter succeeds
@@ -31,12 +31,12 @@ returns c =
     let o = s .before .before .before in
     let t = o .before .before in
     steps _ _ _ _ _ _ _ _ _ _ _ _ _ (t .before .before .before .held-fields .ensures) (t .before .bad-operand .ensures) (t .alloc-status .ensures .is) (o .word32 .ensures)
-    (s .stored-word .ensures .is) (c .before .before .before .before .before .store32 .ensures) (c .before .before .alloc-word .ensures) (c .pick .ensures)
+    (s .stored-word .ensures .is) (c .before .before .before .before .before .settle-row .ensures) (c .before .before .alloc-word .ensures) (c .pick .ensures)
 
 pub write-row-spec : {M : Type 1} → statement M
 write-row-spec =
     tie.close
     (tie.spec
     (λ c κs. search needs) (λ c κs. search needs) (λ c κs. search needs) (λ c κs. search needs) (λ c. search needs)
-    (λ c κs. search needs) (λ c. search needs) (λ c κs. search needs) (λ c κs. search needs) (λ c κs. search needs) (λ c. search needs)
+    (λ c κs. search needs) (λ c κs. search needs) (λ c κs. search needs) (λ c κs. search needs) (λ c. search needs)
     returns)

@@ -12,6 +12,7 @@ unfolding pairs
 sum-tables-requires c κs =
     let p = c .before .before .before .before .before .before .before .pre in
     record {
+      na-low = p .0 .na-low;
       na-high = p .0 .na-high;
       q-low = p .0 .q-low;
       q-high = p .0 .q-high;

@@ -1,0 +1,32 @@
+-- `bandwidth_wellformed::rows::row_plain` meets its contract.
+use mathlib.Core.Path.{_≡_, sym}
+use Prim.Native.Nat.{_+_, _≤_, _-_}
+use native.Mathlib.Omega.{arith}
+use borrow.Author.Needs.{needs}
+use lib.ListN.{getD}
+use Rattle.tables.specs.View.{unionBelow}
+use Rattle.tables.proofs.Union.{union-none, union-next}
+use Rattle.bandwidth_wellformed.specs.Bits.{absentAt, differing, weightBits, rowPlain}
+use Rattle.bandwidth_wellformed.proofs.rows.row_plain.Statement.{statement}
+use Rattle.bandwidth_wellformed.proofs.rows.row_plain.Tie as tie
+
+abbrev Inv-loop : tie.InvT-loop
+Inv-loop t base na some₀ less₀ a₀ some less a = (a ≤ na) × ((some ≡ unionBelow a (λ k. getD t (base + k) 0)) × (less ≡ unionBelow a (absentAt t base)))
+
+abbrev μ-loop : tie.MeasureT-loop
+μ-loop t base na some₀ less₀ a₀ some less a = na - a
+
+loop-again : tie.Need-loop-again Inv-loop μ-loop
+unfolding absentAt
+loop-again c = (omega arith, (rw union-next (cc), rw union-next (cc)))
+
+returns : tie.Need-returns Inv-loop μ-loop
+unfolding rowPlain weightBits differing
+returns c = let e : c .before .before .loop .a ≡ c .before .before .before .before .args .na = omega arith in cc
+
+pub row-plain-spec : {M : Type 1} → statement M
+row-plain-spec =
+    tie.close
+    (tie.spec Inv-loop μ-loop (λ c. (omega arith, (sym (union-none _), sym (union-none _))))
+    (λ c. search needs) (λ c. search needs) (λ c. search needs) (λ c. search needs) (λ c κs. search needs) (λ c. search needs) (λ c. search needs)
+    loop-again (λ c. search needs) (λ c. search needs) returns)

@@ -1,0 +1,34 @@
+-- `bandwidth_wellformed::rows::row_right` meets its contract.
+use mathlib.Core.Path.{_≡_, sym}
+use Prim.Native.Nat.{_+_, _≤_, _-_}
+use native.Mathlib.Omega.{arith}
+use borrow.Author.Needs.{needs}
+use lib.ListN.{getD}
+use Rattle.tables.specs.View.{unionBelow}
+use Rattle.tables.proofs.Union.{union-none, union-next}
+use Rattle.bandwidth_wellformed.specs.Bits.{markAt, lacking, absentAt, differing, weightBits, rowRight}
+use Rattle.bandwidth_wellformed.proofs.Bits.{or-ge-r}
+use Rattle.bandwidth_wellformed.proofs.rows.row_right.Statement.{statement}
+use Rattle.bandwidth_wellformed.proofs.rows.row_right.Tie as tie
+
+abbrev Inv-loop : tie.InvT-loop
+Inv-loop t base na m₀ some₀ less₀ a₀ m some less a =
+    (a ≤ na) × ((m ≡ unionBelow a (markAt t base)) × ((some ≡ unionBelow a (λ k. getD t (base + k) 0)) × (less ≡ unionBelow a (absentAt t base))))
+
+abbrev μ-loop : tie.MeasureT-loop
+μ-loop t base na m₀ some₀ less₀ a₀ m some less a = na - a
+
+loop-again : tie.Need-loop-again Inv-loop μ-loop
+unfolding markAt absentAt
+loop-again c = (omega arith, (rw union-next (cc), (rw union-next (cc), rw union-next (cc))))
+
+returns : tie.Need-returns Inv-loop μ-loop
+unfolding rowRight lacking weightBits differing
+returns c = let e : c .before .loop .a ≡ c .before .before .before .args .na = omega arith in cc
+
+pub row-right-spec : {M : Type 1} → statement M
+row-right-spec =
+    tie.close
+    (tie.spec Inv-loop μ-loop (λ c. (omega arith, (sym (union-none _), (sym (union-none _), sym (union-none _)))))
+    (λ c. search needs) (λ c. search needs) (λ c. search needs) (λ c. search needs) (λ c κs. search needs) (λ c κs. search needs) (λ c. search needs) (λ c. search needs)
+    loop-again (λ c. search or-ge-r) returns)
