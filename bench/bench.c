@@ -69,7 +69,8 @@ enum { VERSIONS = sizeof versions / sizeof versions[0] };
 
 static struct state first_end;
 
-/* The measured calls: n of each, with everything they answer added up. */
+/* The measured calls: n of each, with everything they answer added up, refusals
+ * from bit 40. */
 
 static uint64_t run_request(const struct interface *f, uint64_t n)
 {
@@ -111,7 +112,7 @@ static uint64_t run_read(const struct interface *f, uint64_t n)
     uint64_t sum = 0, value;
     for (uint64_t i = 0; i < n; i++) {
         sum += f->bandwidth_read(BANDWIDTH_OF(&now.bandwidth), 8, CBQRI_BW_ALLOC, &value) << 40;
-        sum += value;
+        sum += (value & 0xffff) + (value >> 16);
     }
     return sum;
 }
@@ -303,7 +304,7 @@ static void print_head(int repetitions, double milliseconds)
            "  read all       for scale: a loop that adds up the words of record and tables, all of\n"
            "                 which a call must look at\n"
            "  ratios         the library's time to that of the C: below 1 it is the faster one\n"
-           "  state          mixed: most pairs set; reset: after a reset\n"
+           "  state          mixed: most pairs set, each RCID with a weight; reset: after a reset\n"
            "  window end     each one finds what the one before left: after the first both tables\n"
            "                 of settings are equal, so that the next take less time\n\n",
            repetitions, milliseconds, COMPILERS);

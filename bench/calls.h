@@ -39,6 +39,12 @@ static int one_in(uint64_t n)
     return upto(n) == 0;
 }
 
+/* A number below this one, often a low one: in large tables few other pairs are set. */
+static uint64_t near_front(uint64_t below)
+{
+    return upto(below > 8 && one_in(2) ? 8 : below);
+}
+
 /* One of a list. At most one entry may draw a number, since C leaves open in
  * which order the entries are worked out. */
 static uint64_t pick(const uint64_t *list, size_t length)
@@ -69,18 +75,29 @@ static struct setup random_setup(void)
     return s;
 }
 
+/* Operands */
+
+static uint64_t random_bw_alloc(const struct setup *s)
+{
+    uint64_t rbwb = PICK(0, 1, 1, 2, s->mrbwb, upto(one_in(2) ? s->mrbwb + 2 : s->mrbwb / 8 + 1));
+    uint64_t shared = upto(16) << 28, weight = upto(256) << 20;
+    uint64_t rest = PICK(0, UINT64_C(1) << 31, shared, weight, weight, weight);
+    uint64_t stray = one_in(8) ? next_random(&seed) : 0;
+    return ((rbwb & 0xffff) | rest) ^ stray;
+}
+
 /* Random well-formed tables */
 
 static void random_row(void *table, const struct setup *s, uint64_t rcid, uint64_t *left)
 {
     uint8_t holders[8], count = 0;
-    uint64_t row = rcid * s->na;
+    uint64_t row = rcid * s->na, weight = one_in(3) ? 0 : upto(256);
     for (uint64_t at = 0; at < s->na; at++) {
         put_word(table, row + at, 4, 0);
         if (*left == 0 || one_in(2))
             continue;
         uint64_t rbwb = 1 + upto(one_in(20) || *left < 8 ? *left : *left / 8);
-        put_word(table, row + at, 4, rbwb | (one_in(3) ? 0 : upto(256)) << 20);
+        put_word(table, row + at, 4, rbwb | weight << 20);
         holders[count++] = (uint8_t)at;
         *left -= rbwb;
     }
@@ -89,14 +106,15 @@ static void random_row(void *table, const struct setup *s, uint64_t rcid, uint64
             put_word(table, row + at, 4, (UINT64_C(8) | holders[upto(count)]) << 28);
 }
 
+/* Of all blocks, or of half of them, some are held; hands back how many. */
 static uint64_t random_settings(void *table, const struct setup *s)
 {
-    uint64_t left = s->mrbwb;
+    uint64_t most = PICK(s->mrbwb, s->mrbwb / 2), left = most;
     memset(table, 0, 4 * s->nr * s->na);
     for (uint64_t rcid = 0; rcid < s->nr; rcid++)
         if (!one_in(4))
             random_row(table, s, rcid, &left);
-    return s->mrbwb - left;
+    return most - left;
 }
 
 static void random_monitor(void *counters, void *events, const struct setup *s,
@@ -128,6 +146,7 @@ static void random_bandwidth(const struct slice *list, const struct setup *s)
         put_word(list[USED].at, i, 4, PICK(0, limit, limit ? upto(limit) : 0));
     }
     random_monitor(list[BANDWIDTH_COUNTERS].at, list[BANDWIDTH_EVENTS].at, s, 3, UINT64_C(3) << 62);
+    put_word(list[RECORD].at, 10, 8, random_bw_alloc(s) & 0xfff0ffff);
     put_word(list[RECORD].at, 11, 8, PICK(0, pool, pool ? upto(pool) : 0));
 }
 
@@ -144,9 +163,9 @@ static void random_capacity(const struct slice *list, const struct setup *s)
 /* One word becomes another, mostly a near one. */
 static void damage_word(void *table, size_t length, unsigned bytes)
 {
-    uint64_t index = upto(length / bytes);
+    uint64_t index = near_front(length / bytes);
     uint64_t word = get_word(table, index, bytes);
-    switch (upto(5)) {
+    switch (upto(6)) {
     case 0:
         word ^= UINT64_C(1) << upto(8 * bytes);
         break;
@@ -161,6 +180,9 @@ static void damage_word(void *table, size_t length, unsigned bytes)
         break;
     case 4:
         word = get_word(table, upto(length / bytes), bytes);
+        break;
+    case 5: /* the weight of a setting */
+        word ^= (1 + upto(255)) << (bytes == 4 ? 20 : 0);
         break;
     }
     put_word(table, index, bytes, word);
@@ -187,20 +209,11 @@ struct call {
     uint32_t bytes;
 };
 
-static uint64_t random_bw_alloc(const struct setup *s)
-{
-    uint64_t rbwb = PICK(0, 1, s->mrbwb, upto(one_in(2) ? s->mrbwb + 2 : s->mrbwb / 8 + 1));
-    uint64_t shared = upto(16) << 28;
-    uint64_t rest = PICK(0, UINT64_C(1) << 31, shared, upto(256) << 20);
-    uint64_t stray = one_in(8) ? next_random(&seed) : 0;
-    return ((rbwb & 0xffff) | rest) ^ stray;
-}
-
 static uint64_t random_control(const struct setup *s, uint64_t ids)
 {
     uint64_t op = one_in(10) ? upto(32) : 1 + upto(2);
     uint64_t at = one_in(10) ? upto(8) : upto(s->na);
-    uint64_t id = one_in(10) ? upto(4096) : upto(ids);
+    uint64_t id = one_in(10) ? upto(4096) : near_front(ids);
     uint64_t event = one_in(10) ? upto(256) : upto(5);
     uint64_t stray = one_in(8) ? next_random(&seed) << 29 : 0;
     return op | at << 5 | id << 8 | event << 20 | upto(2) << 28 | stray;
@@ -209,7 +222,8 @@ static uint64_t random_control(const struct setup *s, uint64_t ids)
 static void random_access(struct call *c, const struct setup *s, int bandwidth)
 {
     c->size = one_in(20) ? PICK(0, 1, 2, 3, 5, 16, UINT64_MAX) : one_in(3) ? 4 : 8;
-    c->offset = one_in(20) ? PICK(1, 2, 4, 36, 40, 44, UINT64_MAX - 3, UINT64_MAX - 7) : 8 * upto(5);
+    c->offset = one_in(20) ? PICK(1, 2, 4, 36, 40, 44, UINT64_MAX - 3, UINT64_MAX - 7)
+                           : PICK(0, 8, 16, 24, 24, 32, 32);
     if (c->offset <= 32 && c->size == 4 && one_in(3))
         c->offset += 4;
     c->value = random_word(64);

@@ -60,13 +60,13 @@ static void state_after_reset(const struct setup *s)
 }
 
 /* AT 0 holds; of the others about two thirds hold, one in six shares AT 0 and
- * one in six is not set. Each third holder has no weight. */
-static uint64_t mixed_setting(uint64_t at)
+ * one in six is not set. */
+static uint64_t mixed_setting(uint64_t at, uint64_t weight)
 {
     uint64_t kind = at == 0 ? 0 : upto(6);
     if (kind == 4)
         return cbqri_sharer(0);
-    return kind == 5 ? 0 : cbqri_holder(1 + upto(20), upto(3));
+    return kind == 5 ? 0 : cbqri_holder(1 + upto(20), weight);
 }
 
 static void mixed_monitor(void *counters, void *events, const struct setup *s,
@@ -79,23 +79,28 @@ static void mixed_monitor(void *counters, void *events, const struct setup *s,
     }
 }
 
-/* Holders, sharers and unset pairs; half of the holders have used something;
- * two RCIDs are configured anew since the last window end. */
+/* Holders, sharers and unset pairs; each RCID has a weight of its own, and all
+ * holders have one; half of them have used something; two RCIDs have 20 blocks
+ * more configured since the last window end. */
 static void state_mixed(const struct setup *s)
 {
     struct bandwidth_buffers *b = &start.bandwidth;
     struct capacity_buffers *c = &start.capacity;
+    uint64_t weight = 0;
     state_after_reset(s);
     for (uint64_t i = 0; i < s->nr * s->na; i++) {
-        uint64_t word = mixed_setting(i % s->na);
+        weight = i % s->na == 0 ? 1 + upto(255) : weight;
+        uint64_t word = mixed_setting(i % s->na, weight);
         put_word(b->active, i, 4, word);
         put_word(b->configured, i, 4, word);
         if ((word & 0xffff) && upto(2))
             put_word(b->used, i, 4, upto(Q / 2));
         put_word(c->masks, i, 8, upto(4) ? next_random(&seed) & BLOCKS : 0);
     }
-    for (int i = 0; i < 2; i++)
-        put_word(b->configured, upto(s->nr) * s->na, 4, cbqri_holder(21 + upto(4), 1));
+    for (int i = 0; i < 2; i++) {
+        uint64_t pair = upto(s->nr) * s->na;
+        put_word(b->configured, pair, 4, get_word(b->configured, pair, 4) + 20);
+    }
     put_word(b->record, 11, 8, 12345);
     mixed_monitor(b->counters, b->events, s, 3);
     mixed_monitor(c->counters, c->events, s, 1);

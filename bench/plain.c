@@ -230,10 +230,18 @@ static bool settings_ok(const uint8_t *table, const struct bandwidth_record *r,
     uint64_t total = 0;
     for (uint64_t rcid = 0; rcid < r->nr; rcid++) {
         const uint8_t *row = table + 4 * rcid * r->na;
+        uint32_t first = 0; /* the RCID's first holder */
         for (uint64_t at = 0; at < r->na; at++) {
+            uint32_t word = load32(row, at);
             if (!pair_ok(row, r->na, at))
                 return false;
-            total += load32(row, at) & RBWB; /* a sharer's is 0 */
+            if (is_holder(word)) {
+                if (first == 0)
+                    first = word;
+                if ((word ^ first) & MWEIGHT)
+                    return false;
+            }
+            total += word & RBWB; /* a sharer's is 0 */
         }
     }
     *sum = total;
@@ -518,6 +526,17 @@ static bool sharer_good(const struct bandwidth *b, uint64_t rcid, uint64_t at)
     return true;
 }
 
+/* Every configured holder of the RCID gets this weight. */
+static void carry_weight(struct bandwidth *b, uint64_t rcid, uint32_t weight)
+{
+    uint8_t *row = b->configured + 4 * rcid * b->r.na;
+    for (uint64_t at = 0; at < b->r.na; at++) {
+        uint32_t word = load32(row, at);
+        if (is_holder(word))
+            store32(row, at, (word & ~MWEIGHT) | weight);
+    }
+}
+
 /* CONFIG_LIMIT of a pair in range. */
 static uint64_t config_limit(struct bandwidth *b, uint64_t rcid, uint64_t at)
 {
@@ -531,6 +550,7 @@ static uint64_t config_limit(struct bandwidth *b, uint64_t rcid, uint64_t at)
         if (!holder_good(b, pair))
             return 5;
         store32(b->configured, pair, operand & (RBWB | MWEIGHT));
+        carry_weight(b, rcid, operand & MWEIGHT);
     }
     return 1;
 }

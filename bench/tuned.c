@@ -9,6 +9,9 @@
  *   a pair with Rbwb other than 0 is a holder.
  * - In a row, the ATs that are shared must all be holders. This one test says
  *   that sharedAT is below NA, is not the pair itself and is a holder.
+ * - In a row, no bit of Mweight may be 1 in one pair and 0 in a holder. So the
+ *   holders have one weight; a pair without Rbwb fails by its own weight.
+ * - Both tests of a row are one, over a word of marks for each pair.
  */
 #ifndef PREFIX
 #define PREFIX tuned_
@@ -19,33 +22,11 @@
 
 enum {
     PART = 128, /* words of a part, at most */
-    SMALL = 32  /* tables up to this many pairs are read the plain way */
+    SMALL = 6   /* tables up to this many pairs are read the plain way */
 };
 
-/* What the words of a part amount to. */
-struct gathered {
-    uint32_t any, bad, sum;
-};
-
-/* Rbwb 0 leaves sharedAT and useShared at most; another Rbwb excludes both.
- * What remains to be seen from any: unnamed bits, and whether there are sharers
- * or a sharedAT without useShared. */
-static struct gathered gather(const uint8_t *part, size_t n)
-{
-    uint32_t any = 0, bad = 0, sum = 0;
-    for (size_t i = 0; i < n; i++) {
-        uint32_t word = load32(part, i);
-        uint32_t rbwb = word & RBWB;
-        uint32_t no_rbwb = rbwb == 0 ? UINT32_MAX : 0;
-        any |= word;
-        bad |= word & (no_rbwb ^ (USE_SHARED | SHARED_AT));
-        sum += rbwb;
-    }
-    return (struct gathered){any, bad, sum};
-}
-
-/* holder_bits[NA - 1][i]: bit 24 + AT, where AT is i modulo NA. */
-#define B(at) (UINT32_C(1) << (24 + (at)))
+/* mark_bits[NA - 2][i]: bit 16 + AT, where AT is i modulo NA, and bits 31:24. */
+#define B(at) (UINT32_C(0xff000000) | UINT32_C(1) << (16 + (at)))
 #define AT2 B(0), B(1)
 #define AT3 AT2, B(2)
 #define AT4 AT3, B(3)
@@ -56,8 +37,7 @@ static struct gathered gather(const uint8_t *part, size_t n)
 #define TWICE(...) __VA_ARGS__, __VA_ARGS__
 #define FOUR(...) TWICE(TWICE(__VA_ARGS__))
 #define EIGHT(...) TWICE(FOUR(__VA_ARGS__))
-static const uint32_t holder_bits[8][PART] = {
-    {FOUR(FOUR(EIGHT(B(0))))},
+static const uint32_t mark_bits[7][PART] = {
     {EIGHT(EIGHT(AT2))},
     {FOUR(EIGHT(AT3)), EIGHT(AT3), TWICE(AT3)},
     {FOUR(EIGHT(AT4))},
@@ -67,30 +47,45 @@ static const uint32_t holder_bits[8][PART] = {
     {TWICE(EIGHT(AT8))},
 };
 
-/* 1 << (word >> 28) for a well-formed word, as vectors have no such shift: the
- * four bits become the exponent of a float from 1 to below 65,536. */
-static inline uint32_t top_bits_to_bit(uint32_t word)
+/* 1 << sharedAT for a well-formed sharer and 0 for no sharer, as vectors have
+ * no such shift: the four top bits become the exponent of a float that is below
+ * 1 without useShared and otherwise from 1 to below 256. */
+static inline uint32_t shared_bit(uint32_t word)
 {
-    uint32_t bits = (word >> 5) + UINT32_C(0x3f800000);
+    uint32_t bits = (word >> 5) + UINT32_C(0x3b800000);
     float number;
     memcpy(&number, &bits, sizeof number);
     return (uint32_t)(int32_t)number;
 }
 
-/* For each pair: bit 0 if it is no sharer, bit 8 + sharedAT if it is one, bits
- * 1 to 7 for a sharedAT without useShared; and bit 24 + AT for a holder. */
-static void mark(const uint8_t *restrict part, size_t n, const uint32_t *restrict bits,
-                 uint32_t *restrict marks)
+/* What the words of a part amount to: those with useShared 1 and those with
+ * useShared 0, each gathered with |, and all Rbwb. */
+struct gathered {
+    uint32_t sharers, others, sum;
+};
+
+/* Marks for each pair: bit sharedAT for a sharer; Mweight in bits 15:8; bit
+ * 16 + AT for a holder; in bits 31:24 those of Mweight that a holder lacks or
+ * a pair without Rbwb has. */
+static struct gathered gather(const uint8_t *restrict part, size_t n,
+                              const uint32_t *restrict bits, uint32_t *restrict marks)
 {
+    struct gathered g = {0, 0, 0};
     for (size_t i = 0; i < n; i++) {
         uint32_t word = load32(part, i);
+        uint32_t sharer = -(word >> 31);
         uint32_t holder = (word & RBWB) == 0 ? 0 : UINT32_MAX;
-        marks[i] = top_bits_to_bit(word) | (bits[i] & holder);
+        uint32_t weight = (word & MWEIGHT) << 4;
+        g.sharers |= word & sharer;
+        g.others |= word & ~sharer;
+        g.sum += word & RBWB;
+        marks[i] = shared_bit(word) | weight >> 16 | ((bits[i] & holder) ^ weight);
     }
+    return g;
 }
 
-/* Not 0 if in some row an AT is shared that is no holder, or a pair has a
- * sharedAT without useShared. */
+/* Not 0 if in some row an AT is shared that is no holder, or a bit of Mweight
+ * is there and lacking. */
 static inline uint32_t rows_bad(const uint32_t *marks, size_t rows, size_t na)
 {
     uint32_t bad = 0;
@@ -98,17 +93,15 @@ static inline uint32_t rows_bad(const uint32_t *marks, size_t rows, size_t na)
         uint32_t all = 0;
         for (size_t at = 0; at < na; at++)
             all |= marks[row * na + at];
-        bad |= all & 0xfffe & ~(all >> 16);
+        bad |= all & (all >> 16 ^ 0xff);
     }
     return bad;
 }
 
-/* The same with NA known to the compiler. */
-static uint32_t shared_bad(const uint32_t *marks, size_t rows, size_t na)
+/* The same with NA, 2 or more, known to the compiler. */
+static uint32_t marks_bad(const uint32_t *marks, size_t rows, size_t na)
 {
     switch (na) {
-    case 1:
-        return rows_bad(marks, rows, 1);
     case 2:
         return rows_bad(marks, rows, 2);
     case 3:
@@ -126,26 +119,43 @@ static uint32_t shared_bad(const uint32_t *marks, size_t rows, size_t na)
     }
 }
 
+/* Whether the part's rows are well formed; adds their Rbwb to *sum. */
+static bool rows_ok(const uint8_t *part, size_t rows, size_t na, uint64_t *sum)
+{
+    uint32_t marks[PART];
+    struct gathered g = gather(part, rows * na, mark_bits[na - 2], marks);
+    *sum += g.sum;
+    if ((g.sharers & ~(USE_SHARED | SHARED_AT)) || (g.others & ~(RBWB | MWEIGHT)))
+        return false;
+    if (!g.sharers && !(g.others & MWEIGHT))
+        return true;
+    return marks_bad(marks, rows, na) == 0;
+}
+
+/* The same with NA 1: there are no sharers, and a row has one weight. */
+static bool pairs_ok(const uint8_t *part, size_t n, uint64_t *sum)
+{
+    uint32_t bad = 0, rbwbs = 0;
+    for (size_t i = 0; i < n; i++) {
+        uint32_t word = load32(part, i);
+        bad |= (word & RBWB) == 0 ? word : word & ~(RBWB | MWEIGHT);
+        rbwbs += word & RBWB;
+    }
+    *sum += rbwbs;
+    return !bad;
+}
+
+static bool part_ok(const uint8_t *part, size_t rows, size_t na, uint64_t *sum)
+{
+    return na == 1 ? pairs_ok(part, rows, sum) : rows_ok(part, rows, na, sum);
+}
+
 static uint32_t any_word(const uint8_t *table, size_t n)
 {
     uint32_t any = 0;
     for (size_t i = 0; i < n; i++)
         any |= load32(table, i);
     return any;
-}
-
-/* Whether the part's rows are well formed; adds their Rbwb to *sum. */
-static bool part_ok(const uint8_t *part, size_t rows, size_t na, uint64_t *sum)
-{
-    uint32_t marks[PART];
-    struct gathered g = gather(part, rows * na);
-    *sum += g.sum;
-    if (g.bad || (g.any & ~SETTING))
-        return false;
-    if (!(g.any & (USE_SHARED | SHARED_AT)))
-        return true;
-    mark(part, rows * na, holder_bits[na - 1], marks);
-    return shared_bad(marks, rows, na) == 0;
 }
 
 /* Rbwb * Q is below 2^32 for every set-up. */

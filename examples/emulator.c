@@ -222,6 +222,7 @@ static void bandwidth_story(void)
     request(1, 1, 0, 0, 900);  /* 900 of 960 reserved */
     request(1, 2, 1, 1, 2000); /* the other 60, and all 1,600 of the pool */
     request(0, 0, 0, 0, 2500); /* 1,920 reserved; the pool is empty */
+    driver_limit(BW_BASE, 3, 1, cbqri_holder(5, 2)); /* AT 0 of RCID 3 gets this weight too */
     end_window(2);
 
     driver_counter(BW_BASE, 1); /* 2,000 + 620 + 900 */

@@ -1,10 +1,10 @@
 /*
- * The cases of rules P1 to P12 with their numbers, a few of a device's request,
- * then random calls on both controllers from a fixed seed. Its output is the
- * same on every machine: a line for each 100 calls has their 100 answers (0, or
- * the refusal's number) and a checksum of all that the calls so far have handed
- * back and left in record and tables. It ends with 1 where a case has another
- * number, or some answer never came up.
+ * The cases of rules P1 to P12 with their numbers, a few of a device's request
+ * and of an RCID's weight, then random calls on both controllers from a fixed
+ * seed. Its output is the same on every machine: a line for each 100 calls has
+ * their 100 answers (0, or the refusal's number) and a checksum of all that the
+ * calls so far have handed back and left in record and tables. It ends with 1
+ * where a case has another number, or some answer never came up.
  */
 #include "../bench/calls.h"
 
@@ -122,6 +122,20 @@ static void device_cases(void)
     expect("device, context, MCID 4", device_refusal(UINT64_MAX, cbqri_dc_ta(0, 4)), 9);
 }
 
+static void weight_cases(void)
+{
+    set_up(2);
+    expect("weight, AT 0", limit(0x001, cbqri_holder(30, 1)), 1);
+    expect("weight, AT 1", limit(0x021, cbqri_holder(10, 7)), 1);
+    expect("weight, carried to AT 0", get_word(b.configured, 0, 4), cbqri_holder(30, 7));
+    expect("weight, in force", get_word(b.active, 0, 4), cbqri_holder(80, 1));
+    put_word(b.configured, 1, 4, cbqri_holder(10, 6));
+    expect("weight, two", cbqri_bandwidth_end_window(BANDWIDTH_OF(&b)), 3);
+    put_word(b.configured, 1, 4, cbqri_holder(10, 7));
+    expect("weight, a sharer", limit(0x021, cbqri_sharer(0)), 1);
+    expect("weight, beside a sharer", get_word(b.configured, 0, 4), cbqri_holder(30, 7));
+}
+
 static void lone_cases(void)
 {
     set_up(2);
@@ -187,6 +201,7 @@ int main(void)
     settings_cases();
     window_cases();
     device_cases();
+    weight_cases();
     lone_cases();
     for (int i = 0; i < CONTROLLERS; i++)
         while (traces[i].count < CALLS)

@@ -57,8 +57,8 @@
  * - Buffers may be saved and restored like any bytes. A state that one version
  *   saved is taken by every version with the same major number and, while that
  *   is 0, the same minor number, and means the same there. Keep CBQRI_VERSION
- *   beside a saved state: any other version may ask for other lengths, and then
- *   refuses it (1 or 2), or read the same bytes otherwise. CHANGELOG.md says so.
+ *   beside a saved state: any other version may refuse it (1 to 3), or read the
+ *   same bytes otherwise. CHANGELOG.md says so.
  *
  * Every function returns 0, or the number of a refusal (below). A refused call
  * has changed no byte of record and tables; the number that it hands back
@@ -129,8 +129,9 @@
  * in bits 7:0, AT in 10:8 and ATV in 11, and is 0 while the counter is stopped.
  *
  * Record and tables are well formed, as refusal 3 asks, when
- * - both settings tables hold only such words, and in each the Rbwb of all
- *   holders together do not exceed MRBWB;
+ * - both settings tables hold only such words, and in each the holders of an
+ *   RCID have one Mweight and the Rbwb of all holders together do not exceed
+ *   MRBWB;
  * - used is at most Rbwb * Q for a holder in force, and 0 for other pairs;
  * - the pool gave at most (NBWBLKS - all Rbwb in force) * Q;
  * - masks and block_mask have no bit at or above NCBLKS;
@@ -182,11 +183,11 @@
 #include <stdint.h>
 
 /* The version of this header and of the library beside it (CHANGELOG.md).
- * CBQRI_VERSION is one number, to be compared: 3001 for 0.3.1. */
+ * CBQRI_VERSION is one number, to be compared: 4000 for 0.4.0. */
 #define CBQRI_VERSION_MAJOR 0
-#define CBQRI_VERSION_MINOR 3
-#define CBQRI_VERSION_PATCH 1
-#define CBQRI_VERSION_STRING "0.3.1"
+#define CBQRI_VERSION_MINOR 4
+#define CBQRI_VERSION_PATCH 0
+#define CBQRI_VERSION_STRING "0.4.0"
 #define CBQRI_VERSION                                                                     \
     (CBQRI_VERSION_MAJOR * 1000000 + CBQRI_VERSION_MINOR * 1000 + CBQRI_VERSION_PATCH)
 
@@ -281,7 +282,8 @@ static inline uint64_t cbqri_mon_ctl(uint64_t op, uint64_t at, uint64_t mcid, ui
            (atv & 1) << 28;
 }
 
-/* bw_alloc of a pair that holds Rbwb blocks; with Mweight 0 the pool gives it nothing. */
+/* bw_alloc of a pair that holds Rbwb blocks, and the Mweight of all holders of its
+ * RCID; with Mweight 0 the pool gives them nothing. */
 static inline uint64_t cbqri_holder(uint64_t rbwb, uint64_t mweight)
 {
     return (rbwb & 0xffff) | (mweight & 0xff) << 20;
@@ -321,7 +323,8 @@ static inline uint64_t cbqri_status(uint64_t ctl)
  * - useShared is 1 and sharedAT is this AT, is at or above NA, or is no
  *   configured holder of this RCID, or another AT of this RCID shares this one.
  * Stored are Rbwb and Mweight of a holder, sharedAT and useShared of a sharer;
- * the blocks that a new sharer had are free again.
+ * the blocks that a new sharer had are free again. A holder's Mweight is stored
+ * in all other configured holders of its RCID too; a sharer leaves theirs alone.
  * READ_LIMIT copies the configured setting into bw_alloc, 0 for a pair never
  * set.
  *

@@ -203,6 +203,12 @@ impl Bandwidth {
     /// assert_eq!(bw.active(0, 0), Some(Setting::Holder { rbwb: 80, mweight: 1 }));
     /// assert_eq!(bw.active(0, 1), Some(Setting::Sharer { shared_at: 0 }));
     /// assert_eq!(bw.active(1, 0), None);
+    ///
+    /// // A holder's weight goes to all holders of its RCID.
+    /// bw.write(8, reg::BW_ALLOC, reg::holder(10, 2))?;
+    /// bw.write(8, reg::ALLOC_CTL, reg::alloc_ctl(reg::CONFIG_LIMIT, 1, 0))?;
+    /// assert_eq!(bw.configured(0, 1), Some(Setting::Holder { rbwb: 10, mweight: 2 }));
+    /// assert_eq!(bw.configured(0, 0), Some(Setting::Holder { rbwb: 30, mweight: 2 }));
     /// # Ok(())
     /// # }
     /// ```

@@ -26,7 +26,8 @@ pub enum Setting {
     Holder {
         /// Blocks reserved.
         rbwb: u16,
-        /// Weight in the pool; with 0 the pool gives it nothing.
+        /// Weight in the pool, the same for all holders of an RCID; with 0 the pool gives
+        /// them nothing.
         mweight: u8,
     },
     /// The pair uses the blocks of another AT of its RCID.

@@ -75,8 +75,8 @@ pub const fn mon_ctl(op: u64, at: u64, mcid: u64, evt_id: u64, atv: bool) -> u64
     (op & 0x1f) | (at & 7) << 5 | (mcid & 0xfff) << 8 | (evt_id & 0xff) << 20 | (atv as u64) << 28
 }
 
-/// A word for bw_alloc: the pair holds Rbwb blocks. With Mweight 0 the pool
-/// gives it nothing.
+/// A word for bw_alloc: the pair holds Rbwb blocks, and all holders of its RCID
+/// get this Mweight. With Mweight 0 the pool gives them nothing.
 #[must_use]
 pub const fn holder(rbwb: u16, mweight: u8) -> u64 {
     rbwb as u64 | (mweight as u64) << 20

@@ -1,10 +1,11 @@
 //! Random calls on random set-ups, from a fixed seed: a refused call changes
 //! nothing, what the getters show is what a driver reads, a device's request is
-//! one with the identifiers of its word, and a controller restored from its
-//! saved buffers is the same one.
+//! one with the identifiers of its word, a controller restored from its saved
+//! buffers is the same one, and the holders of an RCID have one weight.
 
 use cbqri::registers as reg;
-use cbqri::{Bandwidth, BandwidthSetup, Capacity, CapacitySetup, Counter, Kind, Refusal, Setting};
+use cbqri::{Bandwidth, BandwidthSetup, Capacity, CapacitySetup, Counter, Kind};
+use cbqri::{Refusal, Setting, Status};
 
 /// Random numbers with a fixed course (splitmix64).
 struct Random(u64);
@@ -169,6 +170,106 @@ fn random_calls() {
         }
     }
     assert!((1000..15000).contains(&refused), "{refused} of 30,000 calls were refused");
+}
+
+/// In force and configured, all holders of an RCID have one weight.
+fn one_weight(bw: &Bandwidth) {
+    type Getter = fn(&Bandwidth, u64, u64) -> Option<Setting>;
+    let BandwidthSetup { nr, na, .. } = bw.setup();
+    for get in [Bandwidth::active as Getter, Bandwidth::configured] {
+        for rcid in 0..nr {
+            let mut weights = (0..na).filter_map(|at| match get(bw, rcid, at)? {
+                Setting::Holder { mweight, .. } => Some(mweight),
+                Setting::Sharer { .. } => None,
+            });
+            let first = weights.next();
+            assert!(weights.all(|weight| Some(weight) == first), "RCID {rcid} of {bw:?}");
+        }
+    }
+}
+
+/// CONFIG_LIMIT of a pair; whether it is accepted.
+fn set(bw: &mut Bandwidth, rcid: u64, at: u64, setting: Setting) -> bool {
+    bw.write(8, reg::BW_ALLOC, setting_word(Some(setting))).unwrap();
+    bw.write(8, reg::ALLOC_CTL, reg::alloc_ctl(reg::CONFIG_LIMIT, at, rcid)).unwrap();
+    Status::of_alloc(bw.read(8, reg::ALLOC_CTL).unwrap()) == Some(Status::Ok)
+}
+
+/// What is configured for another pair of the RCID after an accepted setting.
+fn beside(setting: Setting, other: Option<Setting>) -> Option<Setting> {
+    match (setting, other) {
+        (Setting::Holder { mweight, .. }, Some(Setting::Holder { rbwb, .. })) => {
+            Some(Setting::Holder { rbwb, mweight })
+        }
+        _ => other,
+    }
+}
+
+/// An accepted setting changes its pair and the weight of the RCID's other holders, in the
+/// configured table alone; the number of those whose weight is another one then.
+fn check_setting(bw: &mut Bandwidth, random: &mut Random) -> usize {
+    let BandwidthSetup { nr, na, .. } = bw.setup();
+    let (rcid, at) = (random.below(nr), random.below(na));
+    let setting = match random.below(4) {
+        0 => Setting::Sharer { shared_at: random.below(na) as u8 },
+        _ => Setting::Holder { rbwb: random.below(9) as u16, mweight: random.below(256) as u8 },
+    };
+    let before = bw.clone();
+    let accepted = set(bw, rcid, at, setting);
+    assert_eq!(bw.buffers().active, before.buffers().active);
+    let mut carried = 0;
+    for pair in (0..nr).flat_map(|rcid| (0..na).map(move |at| (rcid, at))) {
+        let old = before.configured(pair.0, pair.1);
+        let new = match pair {
+            _ if !accepted => old,
+            _ if pair == (rcid, at) => Some(setting),
+            _ if pair.0 == rcid => beside(setting, old),
+            _ => old,
+        };
+        assert_eq!(bw.configured(pair.0, pair.1), new);
+        carried += usize::from(pair != (rcid, at) && new != old);
+    }
+    carried
+}
+
+#[test]
+fn one_weight_of_an_rcid() {
+    let mut random = Random(2024);
+    let mut carried = 0;
+    for _ in 0..100 {
+        let (nr, na) = (1 + random.below(4), 1 + random.below(8));
+        let setup = BandwidthSetup { nbwblks: 200, mrbwb: 150, nr, na, nm: 1, q: 64, w: 24 };
+        let mut bw = Bandwidth::new(setup).unwrap();
+        assert!(set(&mut bw, 0, 0, Setting::Holder { rbwb: 1, mweight: 3 }));
+        for _ in 0..50 {
+            carried += check_setting(&mut bw, &mut random);
+            one_weight(&bw);
+            if random.below(5) == 0 {
+                bw.end_window().unwrap();
+            }
+        }
+    }
+    assert!(carried > 1000, "{carried} weights were carried");
+}
+
+/// Buffers with two weights under an RCID, in force or configured, are refused.
+#[test]
+fn two_weights_of_an_rcid() {
+    let setup = BandwidthSetup { nbwblks: 9, mrbwb: 8, nr: 2, na: 2, nm: 1, q: 1, w: 24 };
+    let mut bw = Bandwidth::new(setup).unwrap();
+    for (rcid, at) in [(0, 0), (0, 1), (1, 0)] {
+        assert!(set(&mut bw, rcid, at, Setting::Holder { rbwb: 2, mweight: 3 }));
+    }
+    bw.end_window().unwrap();
+    for (pair, refused) in [(0, true), (1, true), (2, false)] {
+        let (mut active, mut configured) = (bw.buffers().clone(), bw.buffers().clone());
+        active.active[4 * pair + 2] ^= 0x10; // the weight's lowest bit
+        configured.configured[4 * pair + 2] ^= 0x10;
+        for buffers in [active, configured] {
+            let refusal = Bandwidth::from_buffers(buffers).err();
+            assert_eq!(refusal, refused.then_some(Refusal::State));
+        }
+    }
 }
 
 /// Several threads read one controller.

@@ -10,6 +10,7 @@ mod paper;
 mod published;
 mod refusals;
 mod sweep;
+mod weights;
 
 /// Who answers the calls of a case.
 #[derive(Clone, Copy, Debug, PartialEq, Eq)]
@@ -50,6 +51,7 @@ fn all(side: Side) -> Report {
     paper::run(&mut report);
     published::run(&mut report);
     bandwidth::run(&mut report);
+    weights::run(&mut report);
     devices::run(&mut report);
     capacity::run(&mut report);
     forms::run(&mut report);

@@ -39,6 +39,8 @@ pub trait Controller {
     /// What an accepted call showed, by the value that it handed back and the states around it.
     fn accepted(before: &Self::State, call: &Self::Call, value: u64, after: &Self::State)
         -> Labels;
+    /// What a state showed, beside its fault, that was refused by 3.
+    fn fault(state: &Self::State) -> Labels;
     /// What a call showed that was refused for its own arguments.
     fn refused(setup: &Self::Setup, call: &Self::Call) -> Labels;
     /// What a whole run must have shown.
@@ -95,6 +97,10 @@ macro_rules! controller {
                 after: &$module::State,
             ) -> Labels {
                 coverage::$module::accepted(before, call, value, after)
+            }
+
+            fn fault(state: &$module::State) -> Labels {
+                coverage::$module::fault(state)
             }
 
             fn refused(setup: &$module::Setup, call: &$module::Call) -> Labels {

@@ -66,7 +66,10 @@ pub fn labels<C: Controller>(
     match answer.refusal {
         0 => labels.extend(C::accepted(before, call, answer.value, after)),
         1 | 2 => {}
-        3 => labels.push(format!("refused 3 for {}", before.fault().unwrap_or("nothing"))),
+        3 => {
+            labels.push(format!("refused 3 for {}", before.fault().unwrap_or("nothing")));
+            labels.extend(C::fault(before));
+        }
         _ => labels.extend(C::refused(before.setup(), call)),
     }
     labels

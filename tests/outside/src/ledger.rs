@@ -5,6 +5,7 @@
 pub mod bandwidth;
 pub mod capacity;
 
+use crate::coverage::Labels;
 use crate::model::access::{self, Part};
 use crate::model::monitor::{mon_status, setting_of};
 use crate::model::registers::{
@@ -41,6 +42,11 @@ pub trait Ledger: Sized {
 
     /// All claims, after any call of the list.
     fn check(&self, state: &Self::State) -> Result<(), String>;
+
+    /// What an accepted call that was followed showed, by what came before it in the list.
+    fn shown(&self, _call: &Self::Call) -> Labels {
+        Labels::new()
+    }
 
     /// Follows an accepted call and the value that it handed back.
     fn accepted(&mut self, call: &Self::Call, answered: u64) -> Result<(), String> {

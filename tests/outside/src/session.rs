@@ -4,7 +4,7 @@ use crate::controller::Controller;
 use crate::coverage::{labels, Coverage};
 use crate::generator::{Change, Step};
 use crate::image::Image;
-use crate::ledger::follow;
+use crate::ledger::{follow, Ledger};
 use crate::memory::Memory;
 use crate::model::{Answer, Performs};
 
@@ -77,7 +77,12 @@ impl<C: Controller> Session<C> {
         coverage.note(labels::<C>(&before, call, expected, &self.state));
         follow(&mut self.ledger, call, expected, &self.state)?;
         coverage.calls += 1;
-        coverage.claimed += self.ledger.is_some() as u64;
+        if let Some(ledger) = &self.ledger {
+            coverage.claimed += 1;
+            if expected.refusal == 0 {
+                coverage.note(ledger.shown(call));
+            }
+        }
         Ok(expected)
     }
 

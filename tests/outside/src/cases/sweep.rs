@@ -5,8 +5,12 @@ use super::Report;
 use crate::controller::Controller;
 use crate::model::CommonCall;
 
+/// NR and NA.
+pub const SIZES: [(u64, u64); 8] =
+    [(256, 8), (256, 1), (43, 3), (33, 4), (26, 5), (22, 6), (19, 7), (17, 2)];
+
 pub fn run(report: &mut Report) {
-    for (nr, na) in [(256, 8), (256, 1), (43, 3), (33, 4), (26, 5), (22, 6), (19, 7), (17, 2)] {
+    for (nr, na) in SIZES {
         bandwidth_settings(report, nr, na);
         bandwidth_sharers(report, nr, na);
         capacity_masks(report, nr, na);
@@ -18,7 +22,12 @@ pub fn run(report: &mut Report) {
 }
 
 /// Puts words into the memory, expects a read to be refused by this number or accepted, and puts back.
-fn probe<C: Controller>(c: &mut Case<C>, name: &str, words: &[(usize, usize, u64)], number: u64) {
+pub fn probe<C: Controller>(
+    c: &mut Case<C>,
+    name: &str,
+    words: &[(usize, usize, u64)],
+    number: u64,
+) {
     let old: Vec<u64> = words.iter().map(|&(region, index, _)| c.load(region, index)).collect();
     for &(region, index, value) in words {
         c.store(region, index, value);

@@ -1,8 +1,12 @@
 //! What a run shows of the bandwidth controller.
 
 mod devices;
+mod weights;
+
+pub use weights::fault;
 
 use super::{common_required, operation, unknown, Labels};
+use crate::ledger::bandwidth::required as read_back_required;
 use crate::model::access::ALLOC_CTL;
 use crate::model::bandwidth::settings::{is_sharer, weight, RBWB, SHARED_AT, USE_SHARED};
 use crate::model::bandwidth::{holder_of, Call, Request, Setup, State, OVF};
@@ -29,6 +33,9 @@ pub fn accepted(before: &State, call: &Call, value: u64, after: &State) -> Label
             if *offset == ALLOC_CTL && STATUS.get(after.record.alloc_ctl) == 5 {
                 labels.push(format!("bad operand: {}", bad_operand(after)));
             }
+            if *offset == ALLOC_CTL {
+                labels.extend(weights::operation(before, after).map(String::from));
+            }
         }
         Call::Request(request) => {
             labels.push(source(before, request, value, after));
@@ -37,8 +44,11 @@ pub fn accepted(before: &State, call: &Call, value: u64, after: &State) -> Label
         Call::DeviceRequest(device) => {
             labels.extend(devices::accepted(before, device, value, after))
         }
-        Call::EndWindow if before.active != after.active => {
-            labels.push("window end put other settings in force".into());
+        Call::EndWindow => {
+            labels.extend(weights::window_end(before));
+            if before.active != after.active {
+                labels.push("window end put other settings in force".into());
+            }
         }
         _ => {}
     }
@@ -64,9 +74,12 @@ fn setting_change(before: &State, after: &State) -> Option<String> {
         word if is_sharer(word) => "sharer",
         _ => "holder",
     };
-    let mut pairs = before.configured.iter().zip(&after.configured);
-    let (&old, &new) = pairs.find(|(old, new)| old != new)?;
-    Some(format!("{} became {}", kind(old), kind(new)))
+    if before.configured == after.configured {
+        return None;
+    }
+    let (rcid, at) = (RCID.get(after.record.alloc_ctl), AT.get(after.record.alloc_ctl));
+    let place = after.record.setup.place(rcid, at);
+    Some(format!("{} became {}", kind(before.configured[place]), kind(after.configured[place])))
 }
 
 /// Why alloc_ctl's operation ended in STATUS 5.
@@ -152,6 +165,8 @@ pub fn required() -> Labels {
     ]);
     labels.extend(OTHERS.map(String::from));
     labels.extend(devices::required());
+    labels.extend(weights::required());
+    labels.extend(read_back_required());
     labels
 }
 

@@ -33,6 +33,11 @@ pub fn accepted(before: &State, call: &Call, value: u64, after: &State) -> Label
     labels
 }
 
+/// Nothing beside the fault itself.
+pub fn fault(_state: &State) -> Labels {
+    Labels::new()
+}
+
 pub fn refused(setup: &Setup, call: &Call) -> Labels {
     match call {
         Call::Fill(event) | Call::Evict(event) => {

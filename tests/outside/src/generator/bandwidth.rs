@@ -4,6 +4,7 @@ mod damage;
 mod devices;
 mod operand;
 mod states;
+mod weights;
 
 use super::common;
 use super::{setups, Random, Step};
@@ -31,7 +32,11 @@ pub fn scenario(random: &mut Random, state: &State, lengths: &[usize], quiet: bo
         return common::damaged_call(random, damage, call);
     }
     match random.below(if quiet { 90 } else { 100 }) {
-        0..=29 => configuration(random, state),
+        0..=22 => {
+            let operand = any_operand(random, state);
+            configuration(random, operand)
+        }
+        23..=29 => weights::weights(random, state),
         30..=51 => requests(random, state),
         52..=60 => vec![Step::Call(Call::EndWindow)],
         61..=71 => monitoring(random, state),
@@ -40,10 +45,10 @@ pub fn scenario(random: &mut Random, state: &State, lengths: &[usize], quiet: bo
             let call = call(random);
             vec![common::wrong_length(random, lengths, call)]
         }
-        90..=95 => common::damaged_call(random, damage, call),
-        96 => common::kept_damage(random, damage, call),
-        97 => edge_of_counter(random, state),
-        98 => states::loaded(random, &setup),
+        90..=94 => common::damaged_call(random, damage, call),
+        95 => common::kept_damage(random, damage, call),
+        96 => edge_of_counter(random, state),
+        97 | 98 => states::loaded(random, &setup),
         _ => common::another_reset::<Bandwidth>(random, &setup),
     }
 }
@@ -69,9 +74,8 @@ pub fn any_call(random: &mut Random, setup: &Setup) -> Call {
     Call::Write { size, offset, value }
 }
 
-/// Writes an operand, asks for it to be configured, and often reads it back.
-fn configuration(random: &mut Random, state: &State) -> Steps {
-    let (rcid, at, operand) = any_operand(random, state);
+/// Writes a pair's operand, asks for it to be configured, and often reads it back.
+fn configuration(random: &mut Random, (rcid, at, operand): (u64, u64, u64)) -> Steps {
     let junk = if random.percent(30) { random.next() << 32 | 0xF_0000 } else { 0 };
     let operand =
         if random.percent(30) { (4, OPERAND, operand) } else { (8, OPERAND, operand | junk) };
@@ -82,10 +86,15 @@ fn configuration(random: &mut Random, state: &State) -> Steps {
     }
     if random.percent(40) {
         steps.push(Step::read(random.pick(&[4, 8]), OPERAND));
-        steps.push(Step::write(common::alloc_ctl(random, READ_LIMIT, rcid, at)));
-        steps.push(Step::read(random.pick(&[4, 8]), OPERAND));
+        steps.extend(reading_back(random, rcid, at));
     }
     steps
+}
+
+/// READ_LIMIT of a pair, and a read of what it gives.
+fn reading_back(random: &mut Random, rcid: u64, at: u64) -> Steps {
+    let read_limit = common::alloc_ctl(random, READ_LIMIT, rcid, at);
+    vec![Step::write(read_limit), Step::read(random.pick(&[4, 8]), OPERAND)]
 }
 
 fn requests(random: &mut Random, state: &State) -> Steps {
@@ -97,10 +106,15 @@ fn requests(random: &mut Random, state: &State) -> Steps {
             if random.percent(60) {
                 (request.rcid, request.at) = active_pair(random, state);
             }
-            request.bytes = likely_bytes(random, state, &request);
-            Step::Call(made_by_any(random, setup, request))
+            likely_request(random, state, request)
         })
         .collect()
+}
+
+/// The request with bytes that matter to its holder, by anyone.
+fn likely_request(random: &mut Random, state: &State, request: Request) -> Step<Call> {
+    let bytes = likely_bytes(random, state, &request);
+    Step::Call(made_by_any(random, &state.record.setup, Request { bytes, ..request }))
 }
 
 /// A pair that is a holder or a sharer in force, if a few tries find one.

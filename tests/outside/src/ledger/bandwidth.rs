@@ -1,22 +1,29 @@
 //! The ledger of the bandwidth controller and the claims of demand 3.
 
+mod read_back;
+
+pub use read_back::required;
+
 use super::{claim, CounterSet};
-use crate::model::access::Part;
-use crate::model::bandwidth::settings::{all_reserved, named_bits, reserved, stored_form, weight};
+use crate::coverage::Labels;
+use crate::model::access::{Part, ALLOC_CTL};
+use crate::model::bandwidth::settings::{
+    all_reserved, named_bits, one_weight_each, reserved, store, stored_form, weight,
+};
 use crate::model::bandwidth::{
     alloc_status, counted, first_settings, holder_of, pool_size, Call, DeviceRequest, Request,
     Setup, State, CTR, LAST_EVENT, OVF,
 };
-use crate::model::registers::{AT, CONFIG_LIMIT, DONE, OP, RCID};
+use crate::model::registers::{alloc_ctl_fields, AT, CONFIG_LIMIT, DONE, OP, RCID, READ_LIMIT};
 use crate::model::{access_type, Sizes};
+use read_back::ReadBack;
 
 pub struct Ledger {
     setup: Setup,
     bw_alloc: u64,
     configured: Vec<u32>,
     active: Vec<u32>,
-    /// Each pair's last accepted setting since the reset.
-    accepted: Vec<Option<u32>>,
+    read_back: ReadBack,
     window: Window,
     tallies: Vec<Tally>,
 }
@@ -56,7 +63,7 @@ impl super::Ledger for Ledger {
             bw_alloc: 0,
             configured: words.clone(),
             active: words,
-            accepted: vec![None; setup.pairs()],
+            read_back: ReadBack::after_reset(setup),
             window: Window::open(setup),
             tallies: vec![Tally::default(); setup.nm as usize],
         }
@@ -77,15 +84,15 @@ impl super::Ledger for Ledger {
     }
 
     fn operate(&mut self, fields: u64) {
-        if alloc_status(&self.setup, &self.configured, self.bw_alloc, fields) != DONE {
+        if self.status(fields) != DONE {
             return;
         }
-        let place = self.setup.place(RCID.get(fields), AT.get(fields));
+        let (rcid, at) = (RCID.get(fields), AT.get(fields));
         if OP.get(fields) == CONFIG_LIMIT {
-            self.configured[place] = stored_form(self.bw_alloc);
-            self.accepted[place] = Some(self.configured[place]);
+            store(&self.setup, &mut self.configured, rcid, at, self.bw_alloc);
+            self.read_back.accept(rcid, at, stored_form(self.bw_alloc));
         } else {
-            self.bw_alloc = self.configured[place] as u64;
+            self.bw_alloc = self.configured[self.setup.place(rcid, at)] as u64;
         }
     }
 
@@ -104,6 +111,7 @@ impl super::Ledger for Ledger {
             Call::EndWindow => {
                 self.active = self.configured.clone();
                 self.window = Window::open(&self.setup);
+                self.read_back.end_window();
             }
             _ => {}
         }
@@ -114,6 +122,13 @@ impl super::Ledger for Ledger {
         self.check_settings(state)?;
         self.check_window()?;
         self.check_counters(state)
+    }
+
+    fn shown(&self, call: &Call) -> Labels {
+        match *call {
+            Call::Write { offset: ALLOC_CTL, value, .. } => self.shown_by_reading(value),
+            _ => Labels::new(),
+        }
     }
 }
 
@@ -126,6 +141,20 @@ fn request_of(device: &DeviceRequest) -> Request {
 }
 
 impl Ledger {
+    fn status(&self, fields: u64) -> u64 {
+        alloc_status(&self.setup, &self.configured, self.bw_alloc, fields)
+    }
+
+    /// What a write of alloc_ctl showed, if it was a READ_LIMIT.
+    fn shown_by_reading(&self, value: u64) -> Labels {
+        let fields = alloc_ctl_fields(value, self.setup.na);
+        if OP.get(fields) != READ_LIMIT || self.status(fields) != DONE {
+            return Labels::new();
+        }
+        let place = self.setup.place(RCID.get(fields), AT.get(fields));
+        self.read_back.shown(place, self.configured[place])
+    }
+
     fn request(&mut self, request: &Request, granted: u64) -> Result<(), String> {
         let exists = request.rcid < self.setup.nr && request.mcid < self.setup.nm;
         claim(exists, || format!("accepted with an RCID or MCID that is not there: {request:?}"))?;
@@ -147,12 +176,11 @@ impl Ledger {
         claim(state.active == self.active, || "the table in force".into())?;
         let all = all_reserved(&state.configured);
         claim(all <= self.setup.mrbwb, || format!("{all} blocks reserved of MRBWB"))?;
-        for (place, accepted) in self.accepted.iter().enumerate() {
-            let now = state.configured[place];
-            let text = || format!("setting {accepted:x?} at {place} reads back {now:#x}");
-            claim(accepted.map_or(true, |word| word == now), text)?;
+        for (words, table) in [(&self.configured, "configured"), (&self.active, "in force")] {
+            let text = || format!("two weights of an RCID, {table}: {words:x?}");
+            claim(one_weight_each(&self.setup, words), text)?;
         }
-        Ok(())
+        self.read_back.check(&state.configured)
     }
 
     fn check_window(&self) -> Result<(), String> {
@@ -272,6 +300,36 @@ mod tests {
         let (mut state, ledger) = in_use();
         state.configured[2] = 19;
         assert!(ledger.check(&state).is_err());
+    }
+
+    /// RCID 1 as in `in_use`, and then its AT 1 to 5 blocks with weight 3.
+    fn two_holders() -> (State, Ledger) {
+        let (mut state, mut ledger) = in_use();
+        make(&mut state, &mut ledger, &write(32, 0x0030_0005)).unwrap();
+        make(&mut state, &mut ledger, &write(24, 0x121)).unwrap();
+        (state, ledger)
+    }
+
+    #[test]
+    fn a_weight_is_carried_and_comes_into_force_with_the_window() {
+        let (mut state, mut ledger) = two_holders();
+        assert_eq!(ledger.configured[2..4], [0x0030_0014, 0x0030_0005]);
+        assert_eq!(ledger.active[2..4], [0x0000_0014, 0]);
+        make(&mut state, &mut ledger, &Call::EndWindow).unwrap();
+        assert_eq!(ledger.active[2..4], [0x0030_0014, 0x0030_0005]);
+        state.configured[2] = 0x0000_0014;
+        assert!(ledger.check(&state).is_err(), "its own weight again");
+    }
+
+    #[test]
+    fn two_weights_of_an_rcid_in_either_table() {
+        let (mut state, mut ledger) = two_holders();
+        (ledger.configured[2], state.configured[2]) = (0x0040_0014, 0x0040_0014);
+        assert!(ledger.check(&state).unwrap_err().contains("two weights of an RCID, configured"));
+        let (mut state, mut ledger) = two_holders();
+        make(&mut state, &mut ledger, &Call::EndWindow).unwrap();
+        (ledger.active[2], state.active[2]) = (0x0040_0014, 0x0040_0014);
+        assert!(ledger.check(&state).unwrap_err().contains("two weights of an RCID, in force"));
     }
 
     #[test]

@@ -16,6 +16,11 @@ pub trait Sizes {
         (rcid * self.na() + at) as usize
     }
 
+    /// The places of an RCID's pairs.
+    fn row(&self, rcid: u64) -> std::ops::Range<usize> {
+        self.place(rcid, 0)..self.place(rcid + 1, 0)
+    }
+
     /// Whether these numbers lie in their ranges.
     fn sizes_in_range(&self) -> bool {
         (1..=256).contains(&self.nr())

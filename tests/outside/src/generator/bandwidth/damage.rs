@@ -2,20 +2,21 @@
 
 use super::super::common::{damaged_counter, damaged_event, damaged_setup, flipped_bit};
 use super::super::{Change, Random};
-use crate::model::bandwidth::settings::{all_reserved, reserved};
-use crate::model::bandwidth::slices::{COUNTERS, EVENTS, RECORD, USED};
+use crate::model::bandwidth::settings::{all_reserved, is_holder, reserved, MWEIGHT};
+use crate::model::bandwidth::slices::*;
 use crate::model::bandwidth::{pool_size, Setup, State, LAST_EVENT};
 use crate::model::Sizes;
 
 /// A flipped bit, or a word overwritten with a value at the end of what is allowed there.
 pub fn damage(random: &mut Random, state: &State, lengths: &[usize]) -> Change {
-    match random.below(8) {
+    match random.below(9) {
         0 | 1 => flipped_bit(random, lengths),
         2 => setup_word(random, &state.record.setup),
         3 => register_word(random, state),
         4 => setting(random, state),
         5 => used(random, state),
-        6 => damaged_counter(random, COUNTERS, &state.record.setup, 61, 3 << 62),
+        6 => weight(random, state),
+        7 => damaged_counter(random, COUNTERS, &state.record.setup, 61, 3 << 62),
         _ => damaged_event(random, EVENTS, &state.record.setup, LAST_EVENT),
     }
 }
@@ -68,6 +69,26 @@ fn setting(random: &mut Random, state: &State) -> Change {
         _ => random.next(),
     };
     Change::word(table, 4, place, value & 0xFFFF_FFFF)
+}
+
+/// A bit of one holder's weight in either table, if a few tries find an RCID with several.
+pub fn weight(random: &mut Random, state: &State) -> Change {
+    let setup = &state.record.setup;
+    let (table, words) = random.pick(&[(ACTIVE, &state.active), (CONFIGURED, &state.configured)]);
+    let mut held = vec![];
+    for _ in 0..8 {
+        let rcid = random.place(setup.nr) as u64;
+        held = setup.row(rcid).filter(|&place| is_holder(words[place])).collect();
+        if held.len() > 1 {
+            break;
+        }
+    }
+    if held.is_empty() {
+        return setting(random, state);
+    }
+    let place = held[random.place(held.len() as u64)];
+    let bit = MWEIGHT.place(1 << random.below(8));
+    Change::word(table, 4, place, words[place] as u64 ^ bit)
 }
 
 /// A word of the used table: all of a reservation, one more, or one byte where nothing is reserved.

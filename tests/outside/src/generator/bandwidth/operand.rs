@@ -10,8 +10,7 @@ use crate::model::Sizes;
 /// A pair and a value of bw_alloc for it.
 pub fn any_operand(random: &mut Random, state: &State) -> (u64, u64, u64) {
     let setup = &state.record.setup;
-    let all_taken = all_reserved(&state.configured) == setup.mrbwb;
-    if random.percent(if all_taken { 50 } else { 5 }) {
+    if random.percent(if free_blocks(state) == 0 { 50 } else { 5 }) {
         return release(random, state);
     }
     let rcids = if random.percent(70) { setup.nr.min(4) } else { setup.nr };
@@ -25,7 +24,29 @@ pub fn any_operand(random: &mut Random, state: &State) -> (u64, u64, u64) {
     (rcid, at, holder(random, state, rcid, at))
 }
 
-fn holders_of(state: &State, rcid: u64) -> Vec<u64> {
+/// Mostly a pair of this RCID and a value for it that leaves blocks for others: a holder with the
+/// blocks that it has or fewer, or with some that are free, or a sharer.
+pub fn modest_operand(random: &mut Random, state: &State, rcid: u64) -> (u64, u64, u64) {
+    let setup = &state.record.setup;
+    let (holders, free) = (holders_of(state, rcid), free_blocks(state));
+    if free == 0 && random.percent(50) {
+        return release(random, state);
+    }
+    if holders.len() > 1 && random.percent(25) {
+        return sharer(random, state, rcid, &holders);
+    }
+    let at = random.below(setup.na);
+    let own = reserved(state.configured[setup.place(rcid, at)]);
+    let most = if own > 0 { own } else { free / 2 };
+    let rbwb = if random.percent(30) { most.max(1) } else { random.between(1, most.max(1)) };
+    (rcid, at, RBWB.place(rbwb) | MWEIGHT.place(any_weight(random)))
+}
+
+fn free_blocks(state: &State) -> u64 {
+    state.record.setup.mrbwb - all_reserved(&state.configured)
+}
+
+pub fn holders_of(state: &State, rcid: u64) -> Vec<u64> {
     let setup = &state.record.setup;
     let holds = |at: &u64| is_holder(state.configured[setup.place(rcid, *at)]);
     (0..setup.na).filter(holds).collect()
@@ -37,11 +58,11 @@ fn release(random: &mut Random, state: &State) -> (u64, u64, u64) {
     let blocks = |place: &usize| reserved(state.configured[*place]);
     let place = (0..setup.pairs()).max_by_key(blocks).unwrap_or(0);
     let fewer = random.between(1, blocks(&place).max(2) / 2);
-    let operand = RBWB.place(fewer) | MWEIGHT.place(weight(random));
+    let operand = RBWB.place(fewer) | MWEIGHT.place(any_weight(random));
     (place as u64 / setup.na, place as u64 % setup.na, operand)
 }
 
-fn weight(random: &mut Random) -> u64 {
+pub fn any_weight(random: &mut Random) -> u64 {
     match random.below(4) {
         0 => 0,
         1 => random.pick(&[1, 255]),
@@ -53,7 +74,7 @@ fn weight(random: &mut Random) -> u64 {
 fn holder(random: &mut Random, state: &State, rcid: u64, at: u64) -> u64 {
     let setup = &state.record.setup;
     let own = reserved(state.configured[setup.place(rcid, at)]);
-    let free = setup.mrbwb - (all_reserved(&state.configured) - own);
+    let free = free_blocks(state) + own;
     let rbwb = match random.below(12) {
         0 => 0,
         1 => free + 1,
@@ -65,7 +86,7 @@ fn holder(random: &mut Random, state: &State, rcid: u64, at: u64) -> u64 {
         _ => own,
     };
     let junk = if random.percent(20) { random.below(8) } else { 0 };
-    RBWB.place(rbwb & 0xFFFF) | MWEIGHT.place(weight(random)) | SHARED_AT.place(junk)
+    RBWB.place(rbwb & 0xFFFF) | MWEIGHT.place(any_weight(random)) | SHARED_AT.place(junk)
 }
 
 /// useShared 1, mostly with a holder of the same RCID; the pair may be one that others share.

@@ -1,6 +1,7 @@
 //! Well-formed states made directly, with many pairs set and amounts used up to their ends.
 
 use super::super::{Random, Step};
+use super::operand::any_weight;
 use super::{any_call, damage, Steps};
 use crate::image::Image;
 use crate::model::bandwidth::settings::{reserved, MWEIGHT, RBWB, SHARED_AT, USE_SHARED};
@@ -8,7 +9,7 @@ use crate::model::bandwidth::{pool_size, Record, Setup, State};
 use crate::model::registers::held_at;
 use crate::model::{Checked, Sizes};
 
-/// Lends such a state, makes calls on it, and at times damages it by one word.
+/// Lends such a state, makes calls on it, and often damages it by one word, a weight most of all.
 pub fn loaded(random: &mut Random, setup: &Setup) -> Steps {
     let state = any_state(random, setup);
     let contents = state.bytes();
@@ -16,12 +17,15 @@ pub fn loaded(random: &mut Random, setup: &Setup) -> Steps {
     let lengths = State::lengths(setup);
     for _ in 0..random.between(2, 8) {
         let call = any_call(random, setup);
-        if random.percent(40) {
-            let changes = vec![damage::damage(random, &state, &lengths)];
-            steps.push(Step::Damaged { changes, call });
-        } else {
-            steps.push(Step::Call(call));
-        }
+        let change = match random.below(10) {
+            0..=2 => Some(damage::damage(random, &state, &lengths)),
+            3..=6 => Some(damage::weight(random, &state)),
+            _ => None,
+        };
+        steps.push(match change {
+            Some(change) => Step::Damaged { changes: vec![change], call },
+            None => Step::Call(call),
+        });
     }
     if random.percent(70) {
         steps.push(Step::Call(super::Call::Reset(*setup)));
@@ -76,19 +80,22 @@ fn any_event(random: &mut Random, na: u64) -> u16 {
     (event | random.below(na) << 8 | 1 << 11) as u16
 }
 
-/// Holders with blocks that together may reach MRBWB, and sharers of them.
+/// Holders with blocks that together may reach MRBWB, those of an RCID with one weight, and sharers.
 fn any_settings(random: &mut Random, setup: &Setup) -> Vec<u32> {
     let mut words = vec![0; setup.pairs()];
     let mut free = setup.mrbwb;
     let share = random.pick(&[1, 2, 1 + setup.pairs() as u64]);
-    for rcid in 0..setup.nr {
+    // the RCID that comes first finds the most blocks
+    let first = random.place(setup.nr) as u64;
+    for rcid in (first..setup.nr).chain(0..first) {
         let main = random.below(setup.na);
+        let weight = any_weight(random);
+        let holding = random.pick(&[10, 30, 90]);
         for at in 0..setup.na {
             let blocks = random.between(0, (free / share).max(1).min(free));
             let is_main = at == main;
-            if blocks > 0 && (is_main || random.percent(30)) {
+            if blocks > 0 && (is_main || random.percent(holding)) {
                 free -= blocks;
-                let weight = random.pick(&[0, 1, 255]);
                 words[setup.place(rcid, at)] = (RBWB.place(blocks) | MWEIGHT.place(weight)) as u32;
             }
         }

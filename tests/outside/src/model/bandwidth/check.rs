@@ -2,13 +2,17 @@
 
 use super::request::{pool_size, CTR};
 use super::settings::{
-    all_reserved, bad_share, is_sharer, named_bits, reserved, shared_at, stored_form,
+    all_reserved, bad_share, is_sharer, named_bits, one_weight_each, reserved, shared_at,
+    stored_form,
 };
 use super::{Call, Record, Request, Setup, State, LAST_EVENT};
 use crate::model::check::Checked;
 use crate::model::monitor::monitor_fault;
 use crate::model::registers::{alloc_ctl_well_formed, mon_ctl_well_formed};
 use crate::model::Sizes;
+
+pub const TWO_CONFIGURED_WEIGHTS: &str = "two configured weights of an RCID";
+pub const TWO_WEIGHTS_IN_FORCE: &str = "two weights of an RCID in force";
 
 impl Checked for State {
     type Call = Call;
@@ -42,6 +46,10 @@ impl Checked for State {
             Some("a configured setting")
         } else if !settings_well_formed(setup, &self.active) {
             Some("a setting in force")
+        } else if !one_weight_each(setup, &self.configured) {
+            Some(TWO_CONFIGURED_WEIGHTS)
+        } else if !one_weight_each(setup, &self.active) {
+            Some(TWO_WEIGHTS_IN_FORCE)
         } else if !used_well_formed(self) {
             Some("used bytes")
         } else if self.record.pool_given > pool_size(setup, &self.active) {

@@ -1,8 +1,6 @@
 //! The operations of alloc_ctl: CONFIG_LIMIT and READ_LIMIT.
 
-use super::settings::{
-    all_reserved, bad_share, reserved, stored_form, RBWB, SHARED_AT, USE_SHARED,
-};
+use super::settings::{all_reserved, bad_share, reserved, store, RBWB, SHARED_AT, USE_SHARED};
 use super::{Setup, State};
 use crate::model::registers::{alloc_ctl_fields, AT, CONFIG_LIMIT, DONE, OP, RCID, STATUS};
 use crate::model::{limits, Sizes};
@@ -12,10 +10,11 @@ pub fn write_alloc_ctl(state: &mut State, value: u64) {
     let fields = alloc_ctl_fields(value, setup.na);
     let status = alloc_status(&setup, &state.configured, state.record.bw_alloc, fields);
     if status == DONE {
-        let place = setup.place(RCID.get(fields), AT.get(fields));
+        let (rcid, at) = (RCID.get(fields), AT.get(fields));
+        let State { record, configured, .. } = state;
         match OP.get(fields) {
-            CONFIG_LIMIT => state.configured[place] = stored_form(state.record.bw_alloc),
-            _ => state.record.bw_alloc = state.configured[place] as u64,
+            CONFIG_LIMIT => store(&setup, configured, rcid, at, record.bw_alloc),
+            _ => record.bw_alloc = configured[setup.place(rcid, at)] as u64,
         }
     }
     state.record.alloc_ctl = fields | STATUS.place(status);

@@ -7,6 +7,7 @@ mod request;
 mod reset;
 pub mod settings;
 
+pub use check::{TWO_CONFIGURED_WEIGHTS, TWO_WEIGHTS_IN_FORCE};
 pub use limits::alloc_status;
 pub use request::{counted, holder_of, pool_size, CTR, OVF};
 pub use reset::first_settings;
