@@ -1,8 +1,12 @@
 -- `bandwidth_wellformed::rows::row_plain` meets its contract.
-use mathlib.Core.Path.{_≡_, sym}
-use Prim.Native.Nat.{_+_, _≤_, _-_}
+use mathlib.Core.Path.{_≡_, refl, sym}
+use mathlib.Core.Bool.{not, _&&_, _||_}
+use mathlib.Core.List.{List}
+use Prim.Native.Nat.{ℕ, _+_, _-_, _/_, _%_, _^_, _≤_}
 use native.Mathlib.Omega.{arith}
 use borrow.Author.Needs.{needs}
+use lib.Bits.{bitAnd}
+use lib.Dec.{eqb}
 use lib.ListN.{getD}
 use Rattle.tables.specs.View.{unionBelow}
 use Rattle.tables.proofs.Union.{union-none, union-next}
@@ -20,9 +24,18 @@ loop-again : tie.Need-loop-again Inv-loop μ-loop
 unfolding absentAt
 loop-again c = (omega arith, (rw union-next (cc), rw union-next (cc)))
 
-returns : tie.Need-returns Inv-loop μ-loop
+-- the test over what the loop leaves
+steps : (na base some less first : ℕ) (t : List ℕ) → some ≡ unionBelow na (λ k. getD t (base + k) 0) → less ≡ unionBelow na (absentAt t base) → first ≡ getD t base 0
+    → (eqb (bitAnd (bitAnd some less) 0x0ff00000) 0 && (not (eqb (first % 65536) 0) || eqb (some / 2 ^ 28) 0)) ≡ rowPlain na t base
 unfolding rowPlain weightBits differing
-returns c = let e : c .before .before .loop .a ≡ c .before .before .before .before .args .na = omega arith in cc
+steps na base some less first t e f g = cc
+
+returns : tie.Need-returns Inv-loop μ-loop
+returns c =
+    let s = c .before .before .before .before in
+    let l = c .before .before .loop in
+    let e : l .a ≡ s .args .na = omega arith in
+    steps (s .args .na) (s .args .base) _ _ _ (s .args .t .now) (rw e at (l .inv .1 .0)) (rw e at (l .inv .1 .1)) refl
 
 pub row-plain-spec : {M : Type 1} → statement M
 row-plain-spec =

@@ -1,8 +1,12 @@
 -- `bandwidth_wellformed::rows::row_right` meets its contract.
 use mathlib.Core.Path.{_≡_, sym}
-use Prim.Native.Nat.{_+_, _≤_, _-_}
+use mathlib.Core.Bool.{_&&_}
+use mathlib.Core.List.{List}
+use Prim.Native.Nat.{ℕ, _+_, _-_, _/_, _%_, _^_, _≤_}
 use native.Mathlib.Omega.{arith}
 use borrow.Author.Needs.{needs}
+use lib.Bits.{bitAnd, bitOr}
+use lib.Dec.{eqb}
 use lib.ListN.{getD}
 use Rattle.tables.specs.View.{unionBelow}
 use Rattle.tables.proofs.Union.{union-none, union-next}
@@ -22,9 +26,18 @@ loop-again : tie.Need-loop-again Inv-loop μ-loop
 unfolding markAt absentAt
 loop-again c = (omega arith, (rw union-next (cc), (rw union-next (cc), rw union-next (cc))))
 
-returns : tie.Need-returns Inv-loop μ-loop
+-- the test over what the loop leaves
+steps : (na base m some less : ℕ) (t : List ℕ) → m ≡ unionBelow na (markAt t base) → some ≡ unionBelow na (λ k. getD t (base + k) 0) → less ≡ unionBelow na (absentAt t base)
+    → (eqb (bitOr (m % 65536) (bitOr (m / 2 ^ 16) 1) - bitOr (m / 2 ^ 16) 1) 0 && eqb (bitAnd (bitAnd some less) 0x0ff00000) 0) ≡ rowRight na t base
 unfolding rowRight lacking weightBits differing
-returns c = let e : c .before .loop .a ≡ c .before .before .before .args .na = omega arith in cc
+steps na base m some less t d e f = cc
+
+returns : tie.Need-returns Inv-loop μ-loop
+returns c =
+    let s = c .before .before .before in
+    let l = c .before .loop in
+    let e : l .a ≡ s .args .na = omega arith in
+    steps (s .args .na) (s .args .base) _ _ _ (s .args .t .now) (rw e at (l .inv .1 .0)) (rw e at (l .inv .1 .1 .0)) (rw e at (l .inv .1 .1 .1))
 
 pub row-right-spec : {M : Type 1} → statement M
 row-right-spec =
