@@ -1,10 +1,10 @@
 -- What each call does to the registers and to the configured table, beside what the ledger knows of them.
 use mathlib.Core.Path.{_≡_, refl, sym, ap, subst⁻¹}
-use mathlib.Core.Bool.{Bool, false, not, cond, _&&_}
+use mathlib.Core.Bool.{Bool, false, cond, _&&_}
 use mathlib.Core.List.{List, [], _∷_}
 use Prim.Native.Nat.{ℕ, _<_}
-use lib.Dec.{T, eqb}
-use Rattle.tables.proofs.Tests.{and-in, nor-l, nor-r, not-both, eqb-in}
+use lib.Dec.{eqb}
+use Rattle.tables.proofs.Tests.{nand-r, nor-l, nor-r, not-both, eqb-in}
 use Rattle.access.specs.Access as access
 use Rattle.access.specs.Checks.{isReset, onWrite}
 use Rattle.access.specs.Pairs.{Setting, ofPair}
@@ -118,18 +118,15 @@ rest-lasts = record {
   other = λ su t q p r f lr la n. settled-without su t r q (f .rcid-low) (f .at-low) (p .rcid) (p .at) lr la (other-pair p q n);
 }
 
-other-row : (p q : Setting ℕ) → T (not (eqb (q .rcid) (p .rcid) && isHolder (q .value))) → T (isHolder (q .value)) → p .rcid ≡ q .rcid → ⊥
-other-row p q n h e =
-    let same = eqb (q .rcid) (p .rcid) in
-    not-both (same && isHolder (q .value)) (and-in same (isHolder (q .value)) (eqb-in (q .rcid) (p .rcid) (sym e)) h) n
-
 pub weight-lasts : Lasts acts weight
 weight-lasts = record {
   now = λ su t q r f. ap weightOf (settled-own su t (r .long) q (f .rcid-low) (f .at-low) (f .stored));
   other = λ su t q p r f lr la n.
       let pair = ofPair (p .rcid) (p .at) q in
-      let row = eqb (q .rcid) (p .rcid) && isHolder (q .value) in
-      ap weightOf (settled-same su t (r .long) q (f .rcid-low) (f .at-low) (p .rcid) (p .at) la (other-pair p q (nor-l pair row n)) (other-row p q (nor-r pair row n)));
+      let here = eqb (q .rcid) (p .rcid) in
+      let holder = isHolder (q .value) in
+      ap weightOf (settled-same su t (r .long) q (f .rcid-low) (f .at-low) (p .rcid) (p .at) la (other-pair p q (nor-l pair (here && holder) n))
+      (λ h e. not-both holder h (nand-r here holder (nor-r pair (here && holder) n) (eqb-in (q .rcid) (p .rcid) (sym e)))));
 }
 
 agreeing : (s : State) (l : Ledger) → Inv s l → Agrees controller parts book s l

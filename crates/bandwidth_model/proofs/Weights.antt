@@ -8,7 +8,7 @@ use lib.ListN.{length, getD, set, length-set, length-map, List·getD-map}
 use lib.Seq.{getD-set-same, getD-set-other}
 use Rattle.tables.specs.Below.{sumOf}
 use Rattle.tables.specs.Parts.{row}
-use Rattle.tables.proofs.Tests.{cases, and-l, and-r, and-in, not-both, not-in, eqb-in, neqb, cond-yes, cond-no}
+use Rattle.tables.proofs.Tests.{cases, and-l, and-r, nand-r, not-both, not-in, eqb-in, neqb, cond-yes, cond-no}
 use Rattle.tables.proofs.Laws.{sumOf-map}
 use Rattle.tables.proofs.Parts.{row-inside, part-at, part-length, part-set, sumOf-part}
 use Rattle.access.specs.Pairs.{pair, wordAt, Setting, withSetting}
@@ -47,6 +47,11 @@ module _ (words : List ℕ) (at word : ℕ) where
       (λ t. ap (sumOf reserved) (row-yes t) ∙ sumOf-map reserved _ (set words at word) (λ w. with-reserved (weightOf word) w (weight-lt word))) (λ t. ap (sumOf reserved) (row-no t))
 
 -- ---- the words of the table
+
+-- the word w is v, or v with another Mweight
+data Carried (v w : ℕ) : Type 0 where
+  same : w ≡ v → Carried v w
+  took : (weight : ℕ) → weight < 256 → w ≡ withWeight weight v → Carried v w
 
 module _ (su : Setup) (table : List ℕ) (long : length table ≡ pairs su) (p : Setting ℕ) (hr : p .rcid < su .nr) (ha : p .at < su .na) where
   abbrev own : List ℕ
@@ -107,17 +112,22 @@ module _ (su : Setup) (table : List ℕ) (long : length table ≡ pairs su) (p :
       rw same (settled-entry a la ∙ ap (λ (l : List ℕ). getD l a 0) (row-no own (p .at) (p .value) (not-in (isHolder (p .value)) (λ t. n t same))) ∙ placed-other a la (d same)))
       (λ e. settled-apart r a la (neqb r (p .rcid) e))
 
+  -- so any other pair's word stays or takes the Mweight
+  settled-carried : (r a : ℕ) → a < su .na → (r ≡ p .rcid → a ≡ p .at → ⊥) → Carried (wordAt (su .na) table r a) (wordAt (su .na) (settled su table p) r a)
+  settled-carried r a la d =
+      let here = eqb r (p .rcid) in
+      let holder = isHolder (p .value) in
+      cases (λ b. Carried (wordAt (su .na) table r a) (wordAt (su .na) (settled su table p) r a)) (here && holder)
+      (λ e. let er = eqb→eq r (p .rcid) (and-l here holder e) in
+      took (weightOf (p .value)) (weight-lt (p .value)) (rw er (settled-row (and-r here holder e) a la (d er))))
+      (λ e. same (settled-same r a la d (λ h q. not-both holder h (nand-r here holder e (eqb-in r (p .rcid) q)))))
+
   settled-total : total (settled su table p) ≡ total (withSetting (su .na) table p)
   unfolding settled total pair
   settled-total =
       sumOf-part reserved table (p .rcid * su .na) (su .na) _ _ (settled-sum own (p .at) (p .value)) ∙ ap (sumOf reserved) (part-set table (p .rcid * su .na) (su .na) (p .at) (p .value) ha)
 
 -- ---- what they say
-
--- the word w is v, or v with another Mweight
-data Carried (v w : ℕ) : Type 0 where
-  same : w ≡ v → Carried v w
-  took : (weight : ℕ) → weight < 256 → w ≡ withWeight weight v → Carried v w
 
 holder-carried : {su : Setup} {old : List ℕ} {r a v w : ℕ} → Carried v w → View su old r a v → T (isHolder v) → T (isHolder w)
 holder-carried (same e) x t = rw e t
@@ -155,16 +165,7 @@ module _ (su : Setup) (table : List ℕ) (t : TableFacts su table) (p : Setting 
       let ea = pair-at (su .na) r a (p .rcid) (p .at) la ha i in
       rw (er, ea) (same (settled-own su table (t .long) p hr ha stored ∙ sym (word-set-same (su .na) table (p .rcid) (p .at) (p .value) (place-inside su table (t .long) (p .rcid) (p .at) hr ha)))))
       (λ e. let d = neqb (pair (su .na) r a) (pair (su .na) (p .rcid) (p .at)) e in
-      rw (word-set-other (su .na) table _ (p .value) r a d) (apart r a la d))
-    where
-      apart : (r a : ℕ) → a < su .na → (pair (su .na) r a ≡ pair (su .na) (p .rcid) (p .at) → ⊥) → Carried (wordAt (su .na) table r a) (wordAt (su .na) after r a)
-      apart r a la d =
-          cases (λ b. Carried (wordAt (su .na) table r a) (wordAt (su .na) after r a)) (eqb r (p .rcid) && isHolder (p .value))
-          (λ e. let er = eqb→eq r (p .rcid) (and-l (eqb r (p .rcid)) (isHolder (p .value)) e) in
-          took (weightOf (p .value)) (weight-lt (p .value))
-          (rw er (settled-row su table (t .long) p hr ha (and-r (eqb r (p .rcid)) (isHolder (p .value)) e) a la (λ q. d (cc)))))
-          (λ e. same (settled-same su table (t .long) p hr ha r a la (λ q s. d (cc))
-          (λ h q. not-both (eqb r (p .rcid) && isHolder (p .value)) (and-in (eqb r (p .rcid)) (isHolder (p .value)) (eqb-in r (p .rcid) q) h) e)))
+      rw (word-set-other (su .na) table _ (p .value) r a d) (settled-carried su table (t .long) p hr ha r a la (λ q s. d (cc))))
 
   words-after : Viewed su after
   words-after r a lr la =
@@ -207,14 +208,11 @@ module _ (su : Setup) (table : List ℕ) (t : TableFacts su table) (p : Setting 
     weights = weights-after;
   }
 
--- all but its weight stays at any other pair
+without-carried : {v w : ℕ} → v ≡ storedForm v → Carried v w → without mweight w ≡ without mweight v
+without-carried s (same e) = ap (without mweight) e
+without-carried {v} s (took k h e) = ap (without mweight) e ∙ with-without k v h s
+
+-- all but its Mweight stays at any other pair
 pub settled-without : (su : Setup) (table : List ℕ) → TableFacts su table → (p : Setting ℕ) → p .rcid < su .nr → p .at < su .na
     → (r a : ℕ) → r < su .nr → a < su .na → (r ≡ p .rcid → a ≡ p .at → ⊥) → without mweight (wordAt (su .na) (settled su table p) r a) ≡ without mweight (wordAt (su .na) table r a)
-settled-without su table t p hr ha r a lr la d =
-    cases (λ b. without mweight (wordAt (su .na) (settled su table p) r a) ≡ without mweight (wordAt (su .na) table r a)) (eqb r (p .rcid) && isHolder (p .value))
-    (λ e. let er = eqb→eq r (p .rcid) (and-l (eqb r (p .rcid)) (isHolder (p .value)) e) in
-    let w = wordAt (su .na) table (p .rcid) a in
-    rw er (ap (without mweight) (settled-row su table (t .long) p hr ha (and-r (eqb r (p .rcid)) (isHolder (p .value)) e) a la (d er))
-    ∙ with-without (weightOf (p .value)) w (weight-lt (p .value)) (word-stored (t .words (p .rcid) a hr la))))
-    (λ e. ap (without mweight) (settled-same su table (t .long) p hr ha r a la d
-    (λ h q. not-both (eqb r (p .rcid) && isHolder (p .value)) (and-in (eqb r (p .rcid)) (isHolder (p .value)) (eqb-in r (p .rcid) q) h) e)))
+settled-without su table t p hr ha r a lr la d = without-carried (word-stored (t .words r a lr la)) (settled-carried su table (t .long) p hr ha r a la d)

@@ -29,15 +29,15 @@ with-le weight w h l =
 -- ---- a Mweight carried over a row
 
 -- up to i each word has it, and from i on all are as they were
-pub record Carried (weight : ℕ) (old : List ℕ) (row : List ℕ) (i : ℕ) : Type 0 where
+pub record CarriedBelow (weight : ℕ) (old : List ℕ) (row : List ℕ) (i : ℕ) : Type 0 where
   pub filled : Filled 0 (λ k. withWeight weight (getD old k 0)) (length old) row i
   pub rest : (k : ℕ) → i ≤ k → getD row k 0 ≡ getD old k 0
 
-pub carried-none : {weight : ℕ} {old : List ℕ} → Carried weight old old 0
+pub carried-none : {weight : ℕ} {old : List ℕ} → CarriedBelow weight old old 0
 carried-none = record { filled = filled-none; rest = λ k l. refl }
 
 module _ {weight : ℕ} {old row : List ℕ} {i : ℕ} where
-  pub carried-next : (v : ℕ) → i < length old → v ≡ withWeight weight (getD row i 0) → Carried weight old row i → Carried weight old (set row i v) (i + 1)
+  pub carried-next : (v : ℕ) → i < length old → v ≡ withWeight weight (getD row i 0) → CarriedBelow weight old row i → CarriedBelow weight old (set row i v) (i + 1)
   carried-next v l e w =
       let same : v ≡ withWeight weight (getD old i 0) = e ∙ ap (withWeight weight) (w .rest i (omega arith)) in
       record {
@@ -45,7 +45,7 @@ module _ {weight : ℕ} {old row : List ℕ} {i : ℕ} where
         rest = λ k h. getD-set-other row i k v 0 (λ (q : k ≡ i). omega arith) ∙ w .rest k (omega arith);
       }
 
-  pub carried-end : length old ≤ i → Carried weight old row i → row ≡ map (withWeight weight) old
+  pub carried-end : length old ≤ i → CarriedBelow weight old row i → row ≡ map (withWeight weight) old
   carried-end l w =
       filled-end l (w .filled) (map (withWeight weight) old) (length-map old (withWeight weight))
       (λ k b. ap (getD (map (withWeight weight) old) k) (sym (weight-0 weight)) ∙ List·getD-map (withWeight weight) old k 0)

@@ -1,6 +1,6 @@
 -- One turn of each pass, and the tables that a pass leaves out.
 use mathlib.Core.Path.{_≡_, refl, sym, ap, _∙_}
-use mathlib.Core.Bool.{true, not, cond, _||_}
+use mathlib.Core.Bool.{Bool, true, not, cond, _&&_, _||_}
 use mathlib.Core.List.{List}
 use Prim.Native.Nat.{ℕ, _+_, _*_, _/_, _%_, _^_, _≤_, _<_}
 use native.Mathlib.Nat.{zero-mul, one-mul, suc-mul, mul-le-mul, mul-le-mul-left, mod-eq-of-lt, le-trans}
@@ -16,10 +16,10 @@ use Rattle.tables.specs.Below.{sumBelow, allBelow}
 use Rattle.tables.specs.View.{unionBelow}
 use Rattle.bandwidth_model.specs.Rules.{weightOf, sharedAtOf, useSharedOf}
 use Rattle.tables.proofs.Tests.{cases, and-l, and-r, and-in, or-else, is-true, cond-yes, eqb-in, neqb}
-use Rattle.tables.proofs.Laws.{sum-le, sum-zero, all-at, all-in}
+use Rattle.tables.proofs.Laws.{sum-le, sum-zero, all-none, all-next, all-at, all-in}
 use Rattle.tables.proofs.Parts.{row-inside}
 use Rattle.tables.proofs.Union.{zero-union}
-use Rattle.bandwidth_wellformed.specs.Bits.{formAt, blocksAt, markAt, lacking, weightBits, rowRight, rightAt, rowPlain, overAt, AtMost}
+use Rattle.bandwidth_wellformed.specs.Bits.{formAt, blocksAt, markAt, sharingBits, weightBits, rowRight, rightAt, rowPlain, overAt, AtMost}
 use Rattle.bandwidth_wellformed.specs.Tables.{TableSummed}
 use Rattle.bandwidth_wellformed.proofs.Bits.{or-ge-l, or-ge-r, Has, union-has, union-ge}
 use Rattle.bandwidth_wellformed.proofs.Forms.{unset, form-of, low-blocks}
@@ -41,14 +41,37 @@ shift-shared w h =
 pub bytes-le : {b q : ℕ} → b < 65536 → q ≤ 65536 → b * q ≤ 4294901760
 bytes-le {b} {q} h k = mul-le-mul {n₁ = b} {m₁ = q} {n₂ = 65535} {m₂ = 65536} (omega arith) k
 
--- the row after r
-pub row-next : (r na : ℕ) → r * na + na ≡ (r + 1) * na
-row-next r na = rw (add-one, suc-mul)
-
 -- the blocks of n words
 pub blocks-low : (t : List ℕ) (n : ℕ) → sumBelow n (blocksAt t) ≤ 65535 * n
 unfolding blocksAt
 blocks-low t n = sum-le n 65535 (blocksAt t) (λ k l. omega arith)
+
+-- ---- a test of every row
+
+-- r rows are done, the next one begins at base, and ok says whether all that are done pass
+pub record RowsDone (na rows : ℕ) (passes : ℕ → Bool) (ok : Bool) (base r : ℕ) : Type 0 where
+  pub most : r ≤ rows
+  pub next-at : base ≡ r * na
+  pub all : ok ≡ allBelow r passes
+
+module _ {na rows : ℕ} {passes : ℕ → Bool} where
+  pub rows-none : RowsDone na rows passes true 0 0
+  rows-none = record { most = omega arith; next-at = sym (zero-mul na); all = sym (all-none passes) }
+
+  module _ {ok : Bool} {base r : ℕ} (d : RowsDone na rows passes ok base r) where
+    -- the next one lies in the table
+    pub rows-inside : r < rows → base + na ≤ rows * na
+    rows-inside l = omega (arith, row-inside rows na r l, d .next-at)
+
+    pub rows-next : r < rows → (x : Bool) → x ≡ passes r → RowsDone na rows passes (ok && x) (base + na) (r + 1)
+    rows-next l x e = record {
+      most = omega arith;
+      next-at = ap (λ (b : ℕ). b + na) (d .next-at) ∙ rw (add-one, suc-mul);
+      all = rw (d .all, e) (sym (all-next r passes));
+    }
+
+    pub rows-end : rows ≤ r → ok ≡ allBelow rows passes
+    rows-end l = let e : r ≡ rows = omega (arith, d .most) in rw e at (d .all)
 
 -- ---- a number that no word is above
 
@@ -87,9 +110,9 @@ module _ (na n : ℕ) (t : List ℕ) (any : ℕ) (u : any ≡ unionBelow (n * na
 
   -- the row k names what it may, and its words with blocks have one Mweight
   right : (k : ℕ) → k < n → ((a : ℕ) → a < na → Led na (word k) a) → any < 4294967296 → weightBits na t (k * na) ≡ 0 → T (rightAt na t k)
-  unfolding rightAt rowRight markAt
+  unfolding rightAt rowRight sharingBits markAt
   right k b f s z =
-      and-in (eqb (lacking (unionBelow na (markAt t (k * na)))) 0) (eqb (weightBits na t (k * na)) 0)
+      and-in (eqb (sharingBits na t (k * na)) 0) (eqb (weightBits na t (k * na)) 0)
       (eqb-in _ 0 (held-row na (word k) (λ a l. omega (arith, word-low k a b l)) f)) (eqb-in _ 0 z)
 
   -- none names an AT

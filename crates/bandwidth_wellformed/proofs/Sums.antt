@@ -11,7 +11,7 @@ use Rattle.tables.specs.Parts.{part}
 use Rattle.tables.proofs.Laws.{sum-add, sum-same, all-add, all-same}
 use Rattle.tables.proofs.Parts.{part-at, part-length, row-inside}
 use Rattle.tables.proofs.Union.{union-none, union-same, union-add}
-use Rattle.bandwidth_wellformed.specs.Bits.{formBits, formAt, blocksAt, mark, markAt, absent, absentAt, weightBits, rowRight, rightAt, overAt, AtMost, SpanAt}
+use Rattle.bandwidth_wellformed.specs.Bits.{formBits, formAt, blocksAt, mark, markAt, sharingBits, absent, absentAt, weightBits, rowRight, rightAt, overAt, AtMost, SpanAt}
 use Rattle.bandwidth_wellformed.specs.Tables.{Rows, Zeros, TableSummed, Summed, TableAdded, Added, SumsFit}
 use Rattle.bandwidth_wellformed.specs.declared.settings.TableSums.{TableSums}
 use Rattle.bandwidth_wellformed.specs.declared.settings.Sums.{Sums}
@@ -31,7 +31,7 @@ module _ (na n m : ℕ) (t : List ℕ) where
   word-is i h = part-at t (n * na) (m * na) i h
 
   right-is : (i : ℕ) → i < m → rightAt na rest i ≡ rightAt na t (n + i)
-  unfolding rightAt rowRight markAt weightBits absentAt
+  unfolding rightAt rowRight sharingBits markAt weightBits absentAt
   right-is i h =
       let same : (a : ℕ) → a < na → getD rest (i * na + a) 0 ≡ getD t ((n + i) * na + a) 0 =
       λ a l. word-is (i * na + a) (omega (arith, row-inside m na i h)) ∙ ap (λ (k : ℕ). getD t k 0) (omega (arith, add-mul n i na)) in

@@ -21,7 +21,7 @@ use Rattle.bandwidth_model.specs.Model.{tableOk}
 use Rattle.bandwidth_model.specs.View.{Sized}
 use Rattle.bandwidth_model.proofs.Words.{shared-0, blocks-0, shared-1, not-0, stored-fields-1, holder-in, holder-shared, not-holder-0}
 use Rattle.bandwidth_model.proofs.Settings.{View, unset, holds, follows, Viewed, OneWeight, TableFacts, table-ok, table-facts}
-use Rattle.bandwidth_wellformed.specs.Bits.{formAt, blocksAt, markAt, lacking, weightBits, rowRight, rightAt, overAt}
+use Rattle.bandwidth_wellformed.specs.Bits.{formAt, blocksAt, markAt, sharingBits, weightBits, rowRight, rightAt, overAt}
 use Rattle.bandwidth_wellformed.specs.Tables.{tablesOk, TableSummed, SummedTables, TablesChecked}
 use Rattle.bandwidth_wellformed.specs.declared.settings.TableSums.{TableSums}
 use Rattle.bandwidth_wellformed.specs.declared.settings.Sums.{Sums}
@@ -99,10 +99,10 @@ module _ (su : Setup) (t : List ℕ) (long : length t ≡ pairs su) where
 
   module _ (fit : (i : ℕ) → getD t i 0 < 4294967296) where
     -- from the passes to the facts
-    module _ (form : unionBelow (su .nr * su .na) (formAt t) ≡ 0) (rows : (rcid : ℕ) → rcid < su .nr → lacking (unionBelow (su .na) (markAt t (rcid * su .na))) ≡ 0) where
+    module _ (form : unionBelow (su .nr * su .na) (formAt t) ≡ 0) (rows : (rcid : ℕ) → rcid < su .nr → sharingBits (su .na) t (rcid * su .na) ≡ 0) where
       module _ (rcid at : ℕ) (hr : rcid < su .nr) (ha : at < su .na) where
         led : Led (su .na) (wordAt (su .na) t rcid) at
-        unfolding wordAt pair markAt
+        unfolding wordAt pair sharingBits markAt
         led = row-held (su .na) (wordAt (su .na) t rcid) (λ a l. fit (rcid * su .na + a)) (rows rcid hr) at ha
 
         pair-form : Form (wordAt (su .na) t rcid at)
@@ -133,8 +133,8 @@ module _ (su : Setup) (t : List ℕ) (long : length t ≡ pairs su) where
     unfolding pairs formAt
     no-form f = zero-union (su .nr * su .na) (formAt t) (λ i l. form-of (getD t i 0) (fit i) (words-form f i l))
 
-    no-rows : TableFacts su t → (rcid : ℕ) → rcid < su .nr → lacking (unionBelow (su .na) (markAt t (rcid * su .na))) ≡ 0
-    unfolding wordAt pair markAt
+    no-rows : TableFacts su t → (rcid : ℕ) → rcid < su .nr → sharingBits (su .na) t (rcid * su .na) ≡ 0
+    unfolding wordAt pair sharingBits markAt
     no-rows f rcid hr = held-row (su .na) (wordAt (su .na) t rcid) (λ a l. fit (rcid * su .na + a)) (λ at ha. leads rcid at hr (f .words rcid at hr ha))
       where
         leads : (rcid at : ℕ) → rcid < su .nr → View su t rcid at (wordAt (su .na) t rcid at) → Led (su .na) (wordAt (su .na) t rcid) at
@@ -155,7 +155,7 @@ module _ (su : Setup) (t : List ℕ) (long : length t ≡ pairs su) where
     unfolding rightAt rowRight
     rows-right f =
         all-in (su .nr) (rightAt (su .na) t)
-        (λ rcid hr. and-in (eqb (lacking (unionBelow (su .na) (markAt t (rcid * su .na)))) 0) _ (eqb-in _ 0 (no-rows f rcid hr)) (eqb-in _ 0 (no-weights f rcid hr)))
+        (λ rcid hr. and-in (eqb (sharingBits (su .na) t (rcid * su .na)) 0) _ (eqb-in _ 0 (no-rows f rcid hr)) (eqb-in _ 0 (no-weights f rcid hr)))
 
     module _ {s : TableSums} (l : TableSummed (su .na) t (su .nr) s) where
       abbrev passes : Bool
@@ -169,8 +169,8 @@ module _ (su : Setup) (t : List ℕ) (long : length t ≡ pairs su) where
           let b : T (leb (s .blocks) (su .mrbwb)) = search (and-l, and-r) in
           let nf = sym (l .form) ∙ eqb→eq (s .form) 0 f in
           let row : (rcid : ℕ) → rcid < su .nr → T (rightAt (su .na) t rcid) = all-at (su .nr) (rightAt (su .na) t) (subst T (l .rows) r) in
-          let nr : (rcid : ℕ) → rcid < su .nr → lacking (unionBelow (su .na) (markAt t (rcid * su .na))) ≡ 0 = λ rcid h. eqb→eq _ 0 (and-l (eqb (lacking (unionBelow (su .na) (markAt t (rcid * su .na)))) 0) (eqb (weightBits (su .na) t (rcid * su .na)) 0) (row rcid h)) in
-          let nw : (rcid : ℕ) → rcid < su .nr → weightBits (su .na) t (rcid * su .na) ≡ 0 = λ rcid h. eqb→eq _ 0 (and-r (eqb (lacking (unionBelow (su .na) (markAt t (rcid * su .na)))) 0) _ (row rcid h)) in
+          let nr : (rcid : ℕ) → rcid < su .nr → sharingBits (su .na) t (rcid * su .na) ≡ 0 = λ rcid h. eqb→eq _ 0 (and-l (eqb (sharingBits (su .na) t (rcid * su .na)) 0) _ (row rcid h)) in
+          let nw : (rcid : ℕ) → rcid < su .nr → weightBits (su .na) t (rcid * su .na) ≡ 0 = λ rcid h. eqb→eq _ 0 (and-r (eqb (sharingBits (su .na) t (rcid * su .na)) 0) _ (row rcid h)) in
           table-ok su t
           (record {
             long = long;

@@ -31,6 +31,10 @@ markAt t base a = mark a (getD t (base + a) 0)
 unfoldable pub lacking : ℕ → ℕ
 lacking m = bitOr (m % 65536) (bitOr (m / 2 ^ 16) 1) - bitOr (m / 2 ^ 16) 1
 
+-- the ATs of the row from base on that are shared and have no blocks, or named and not shared
+unfoldable pub sharingBits : ℕ → List ℕ → ℕ → ℕ
+sharingBits na t base = lacking (unionBelow na (markAt t base))
+
 -- the bits of Mweight that a word with blocks lacks, and its other bits
 unfoldable pub absent : ℕ → ℕ
 absent w = cond (not (eqb (w % 65536) 0)) (bitXor w 0x0ff00000) 0
@@ -48,13 +52,13 @@ weightBits na t base = differing (unionBelow na (λ a. getD t (base + a) 0)) (un
 
 -- in the row from base on, every AT that is named is shared and has blocks, and the words with blocks have one Mweight
 unfoldable pub rowRight : ℕ → List ℕ → ℕ → Bool
-rowRight na t base = eqb (lacking (unionBelow na (markAt t base))) 0 && eqb (weightBits na t base) 0
+rowRight na t base = eqb (sharingBits na t base) 0 && eqb (weightBits na t base) 0
 
 -- the words of an RCID
 unfoldable pub rightAt : ℕ → List ℕ → ℕ → Bool
 rightAt na t rcid = rowRight na t (rcid * na)
 
--- what says so of a row in which no AT but 0 is named: the first word has blocks, or none names an AT
+-- the same of a row in which no AT but 0 is named: the words with blocks have one Mweight, and the first word has blocks or none names an AT
 unfoldable pub rowPlain : ℕ → List ℕ → ℕ → Bool
 rowPlain na t base =
     eqb (weightBits na t base) 0 && (not (eqb (getD t base 0 % 65536) 0) || eqb (unionBelow na (λ a. getD t (base + a) 0) / 2 ^ 28) 0)

@@ -55,7 +55,7 @@ fn rows_right(t: &[u32], rows: usize, na: u32) -> bool
     ok
 }
 
-// Whether a row in which no AT but 0 is named is right; true only where it is.
+// Whether a row in which no AT but 0 is named is right.
 fn row_plain(t: &[u32], base: usize, na: u32) -> bool
     requires { ⌜ (1 ≤ na) × (base + na ≤ length (now t)) ⌝ }
     ensures { λ r. ⌜ r ≡ rowPlain na (now (t .entry)) base ⌝ }

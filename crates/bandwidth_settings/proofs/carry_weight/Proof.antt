@@ -3,12 +3,12 @@ use Prim.Native.Nat.{_-_}
 use native.Mathlib.Omega.{arith}
 use borrow.Author.Needs.{needs}
 use lib.ListN.{length}
-use Rattle.bandwidth_settings.proofs.Words.{Carried, carried-none, carried-next, carried-end}
+use Rattle.bandwidth_settings.proofs.Words.{CarriedBelow, carried-none, carried-next, carried-end}
 use Rattle.bandwidth_settings.proofs.carry_weight.Statement.{statement}
 use Rattle.bandwidth_settings.proofs.carry_weight.Tie as tie
 
 abbrev Inv-loop : tie.InvT-loop
-Inv-loop row₀ weight i₀ row i = Carried weight row₀ row i
+Inv-loop row₀ weight i₀ row i = CarriedBelow weight row₀ row i
 
 abbrev μ-loop : tie.MeasureT-loop
 μ-loop row₀ weight i₀ row i = length row₀ - i

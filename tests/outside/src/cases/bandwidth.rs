@@ -1,15 +1,12 @@
 //! Bandwidth: the places where a first version goes wrong, with numbers by hand.
 
+use super::case::bandwidth_record::*;
 use super::case::BandwidthCase;
 use super::Report;
 use crate::model::bandwidth::slices::*;
 
 const TWO_TYPES: [u64; 7] = [100, 80, 4, 2, 4, 64, 24];
 const THREE_TYPES: [u64; 7] = [100, 80, 4, 3, 4, 64, 24];
-
-// words of the record
-const ALLOC_CTL_WORD: usize = 9;
-const POOL: usize = 11;
 
 pub fn run(report: &mut Report) {
     after_reset(report);

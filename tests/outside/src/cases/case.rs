@@ -17,6 +17,13 @@ pub struct Case<'a, C: Controller> {
 pub type BandwidthCase<'a> = Case<'a, Bandwidth>;
 pub type CapacityCase<'a> = Case<'a, Capacity>;
 
+/// Words of the bandwidth controller's record, by number.
+pub mod bandwidth_record {
+    pub const W: usize = 6;
+    pub const ALLOC_CTL_WORD: usize = 9;
+    pub const POOL: usize = 11;
+}
+
 /// What lent memory holds before the first reset.
 const OLD_BYTE: u8 = 0xA5;
 

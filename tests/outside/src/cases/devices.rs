@@ -1,15 +1,12 @@
 //! Requests of devices through the IOMMU: identifiers by mode and word, with numbers by hand.
 
+use super::case::bandwidth_record::*;
 use super::case::{device_request, BandwidthCase};
 use super::forms::good_state;
 use super::Report;
 use crate::model::bandwidth::slices::*;
 
 const SETUP: [u64; 7] = [100, 80, 4, 2, 4, 64, 24];
-
-// words of the record
-const W: usize = 6;
-const POOL: usize = 11;
 
 const OFF: u64 = 0;
 const BARE: u64 = 1;

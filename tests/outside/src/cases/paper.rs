@@ -1,13 +1,11 @@
 //! One controller worked through: rules P1 to P12, and the listing as calls.
 
+use super::case::bandwidth_record::POOL;
 use super::case::BandwidthCase;
 use super::Report;
 use crate::model::bandwidth::slices::{COUNTERS, RECORD, USED};
 
 const SETUP: [u64; 7] = [100, 80, 4, 2, 4, 64, 24];
-
-/// The record's word with the bytes that the pool gave.
-const POOL: usize = 11;
 
 pub fn run(report: &mut Report) {
     p1_to_p10(report);

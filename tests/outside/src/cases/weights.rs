@@ -1,5 +1,6 @@
 //! The holders of an RCID have one weight: what an accepted setting carries, and refusal 3.
 
+use super::case::bandwidth_record::*;
 use super::case::{bandwidth_setup, device_request, BandwidthCase};
 use super::sweep::{probe, SIZES};
 use super::Report;
@@ -7,10 +8,6 @@ use crate::model::bandwidth::slices::*;
 use crate::model::bandwidth::{Call, Request};
 
 const SETUP: [u64; 7] = [100, 80, 4, 3, 4, 64, 24];
-
-// words of the record
-const ALLOC_CTL_WORD: usize = 9;
-const POOL: usize = 11;
 
 pub fn run(report: &mut Report) {
     code_and_data(report);
@@ -251,7 +248,7 @@ fn order(report: &mut Report) {
     c.refuses("3 before 9", &device_request([2, u64::MAX, 0, 0, 1]), 3);
     c.lend_length(EVENTS, 9);
     c.refuses("2 before 3", &Call::EndWindow, 2);
-    c.store(RECORD, 6, 63);
+    c.store(RECORD, W, 63);
     c.refuses("1 before 2", &Call::EndWindow, 1);
 }
 

@@ -10,7 +10,7 @@ use lib.Dec.{eqb}
 use lib.ListN.{getD}
 use Rattle.tables.specs.View.{unionBelow}
 use Rattle.tables.proofs.Union.{union-none, union-next}
-use Rattle.bandwidth_wellformed.specs.Bits.{markAt, lacking, absentAt, differing, weightBits, rowRight}
+use Rattle.bandwidth_wellformed.specs.Bits.{markAt, lacking, sharingBits, absentAt, differing, weightBits, rowRight}
 use Rattle.bandwidth_wellformed.proofs.Bits.{or-ge-r}
 use Rattle.bandwidth_wellformed.proofs.rows.row_right.Statement.{statement}
 use Rattle.bandwidth_wellformed.proofs.rows.row_right.Tie as tie
@@ -29,7 +29,7 @@ loop-again c = (omega arith, (rw union-next (cc), (rw union-next (cc), rw union-
 -- the test over what the loop leaves
 steps : (na base m some less : ℕ) (t : List ℕ) → m ≡ unionBelow na (markAt t base) → some ≡ unionBelow na (λ k. getD t (base + k) 0) → less ≡ unionBelow na (absentAt t base)
     → (eqb (bitOr (m % 65536) (bitOr (m / 2 ^ 16) 1) - bitOr (m / 2 ^ 16) 1) 0 && eqb (bitAnd (bitAnd some less) 0x0ff00000) 0) ≡ rowRight na t base
-unfolding rowRight lacking weightBits differing
+unfolding rowRight sharingBits lacking weightBits differing
 steps na base m some less t d e f = cc
 
 returns : tie.Need-returns Inv-loop μ-loop
