@@ -21,17 +21,17 @@ use Rattle.tables.proofs.Tests.{nor-l, of-true, of-false}
 use Rattle.monitor.specs.Monitor.{Monitor, cleared, monStatus, monAfter, writeMon, counted}
 use Rattle.monitor.specs.Bytes.{lastEvent, countsRequest, added}
 use Rattle.bandwidth_model.specs.Rules.{Setup, setupOk, pairs, holderOf, bwWord}
-use Rattle.bandwidth_model.specs.Calls.{Call, reset, read, write, endWindow, refused, done, value, granted}
+use Rattle.bandwidth_model.specs.Calls.{Call, reset, read, write, endWindow, Grant, grantSum, refused, done, value, granted}
 use Rattle.bandwidth_model.specs.Claim.{isReset}
 use Rattle.bandwidth_model.specs.View.{Requests}
-use Rattle.bandwidth_model.specs.Model.{State, Allocation, Usage, Outcome, lengthsOk, argumentChecks, stateChecks, readAt, opened, afterReset, afterWindow, grantOf, grantSum, spend, serve, serveFrom, requested, writeAlloc, writeBw, writeAt, perform, step}
+use Rattle.bandwidth_model.specs.Model.{State, Allocation, Usage, Outcome, lengthsOk, argumentChecks, stateChecks, readAt, opened, afterReset, afterWindow, grantOf, spend, serve, serveFrom, requested, writeAlloc, writeBw, writeAt, perform, step}
 use Rattle.bandwidth_model.proofs.Steps.{checking}
 use Rattle.bandwidth_settings.specs.View.{Ready}
 use Rattle.bandwidth_settings.specs.Rows.{Reserves}
 use Rattle.bandwidth_settings.proofs.Rows.{row-reserves}
 use Rattle.bandwidth_grants.specs.View.{usage}
 use Rattle.bandwidth_grants.specs.Grants.{RowFits, RowGiven}
-use Rattle.bandwidth_grants.proofs.Rows.{row-fits, row-sum, row-spent}
+use Rattle.bandwidth_grants.proofs.Rows.{row-fits, row-granted, row-spent}
 use Rattle.bandwidth.specs.declared.check.Totals.{Totals}
 use Rattle.bandwidth.specs.View.{outcome}
 use Rattle.bandwidth.specs.Checked.{Passes, Fresh}
@@ -105,21 +105,21 @@ module _ (s : State) (su : Setup) where
 
 -- ---- requests
 
--- a request: its AT, the bytes granted, what is used then, and the counters
-serve-steps : (s : State) (rcid mcid at kind bytes a sum : ℕ) (u : Usage) (counters : List ℕ) → a ≡ knownAt (s .setup .na) at
+-- a request: its AT, the bytes granted and their sum, what is used then, and the counters
+serve-steps : (s : State) (rcid mcid at kind bytes a : ℕ) (x : Grant) (sum : ℕ) (u : Usage) (counters : List ℕ) → a ≡ knownAt (s .setup .na) at
     → (let h = holderOf (s .setup) (s .usage .active) rcid a in
     let g = grantOf (s .setup) (s .usage) h bytes in
-    sum ≡ grantSum g → u ≡ spend (s .usage) h g
+    x ≡ g → sum ≡ grantSum x → u ≡ spend (s .usage) h g
     → counters ≡ cond (countsRequest (getD (s .monitor .events) mcid 0) a kind)
     (set (s .monitor .counters) mcid (added (s .setup .w) sum (getD (s .monitor .counters) mcid 0))) (s .monitor .counters)
-    → outcome (granted sum) (record {
+    → outcome (granted (x .reserved) (x .pool)) (record {
       setup = s .setup;
       alloc = s .alloc;
       usage = u;
       monitor = record { ctl = s .monitor .ctl; value = s .monitor .value; counters = counters; events = s .monitor .events };
     }) ≡ requested s rcid mcid at kind bytes)
 unfolding requested serveFrom serve counted
-serve-steps s rcid mcid at kind bytes a sum u counters e₁ e₂ e₃ e₄ = rw (e₄, e₃, e₂, e₁) refl
+serve-steps s rcid mcid at kind bytes a x sum u counters e₁ e₂ e₃ e₄ e₅ = rw (e₅, e₄, e₃, e₂, e₁) refl
 
 -- a request by the words of its RCID
 module _ {s : State} {t : Totals} (p : Passes s t) {rcid a from to : ℕ} (at bytes : ℕ) (hr : rcid < s .setup .nr) (e : a ≡ knownAt (s .setup .na) at)
@@ -127,25 +127,25 @@ module _ {s : State} {t : Totals} (p : Passes s t) {rcid a from to : ℕ} (at by
   low : a < s .setup .na
   low = rw e (known-lt (s .setup .na) at (p .ranges .na-low))
 
-  abbrev Given : List ℕ → ℕ → ℕ → Type 0
-  Given left sum gave =
-      RowGiven (s .setup) (t .active) (part from (to - from) (s .usage .active)) (part from (to - from) (s .usage .used)) (s .usage .pool) a bytes left sum gave
+  abbrev Given : List ℕ → Grant → ℕ → ℕ → Type 0
+  Given left x sum gave =
+      RowGiven (s .setup) (t .active) (part from (to - from) (s .usage .active)) (part from (to - from) (s .usage .used)) (s .usage .pool) a bytes left x sum gave
 
   pub request-fits : RowFits (s .setup) (t .active) (part from (to - from) (s .usage .active)) (part from (to - from) (s .usage .used)) (s .usage .pool) a bytes
   request-fits = rw (p .totals .active) (row-fits (s .setup) (s .usage) (p .ranges) (active-facts p) (usage-formed p) w hr a bytes low)
 
-  pub serve-row : (mcid kind : ℕ) {left counters : List ℕ} {sum gave : ℕ} → Given left sum gave
+  pub serve-row : (mcid kind : ℕ) {left counters : List ℕ} {x : Grant} {sum gave : ℕ} → Given left x sum gave
       → counters ≡ cond (countsRequest (getD (s .monitor .events) mcid 0) a kind)
       (set (s .monitor .counters) mcid (added (s .setup .w) sum (getD (s .monitor .counters) mcid 0))) (s .monitor .counters)
-      → outcome (granted sum) (record {
+      → outcome (granted (x .reserved) (x .pool)) (record {
         setup = s .setup;
         alloc = s .alloc;
         usage = usage (s .usage .active) (withPart from (to - from) (s .usage .used) left) gave;
         monitor = record { ctl = s .monitor .ctl; value = s .monitor .value; counters = counters; events = s .monitor .events };
       }) ≡ requested s rcid mcid at kind bytes
-  serve-row mcid kind {counters = counters} {sum = sum} g c =
+  serve-row mcid kind {counters = counters} {x = x} {sum = sum} g c =
       let h = rw (p .totals .active) at g in
-      serve-steps s rcid mcid at kind bytes a sum _ counters e (row-sum (s .setup) (s .usage) (p .ranges) (active-facts p) (usage-formed p) w hr a bytes low h)
+      serve-steps s rcid mcid at kind bytes a x sum _ counters e (row-granted (s .setup) (s .usage) (p .ranges) (active-facts p) (usage-formed p) w hr a bytes low h) (h .sum-is)
       (row-spent (s .setup) (s .usage) (p .ranges) (active-facts p) (usage-formed p) w hr a bytes low h) c
 
 -- ---- writes

@@ -49,7 +49,7 @@ readingOf (reading.Value v) = value v
 readingOf (reading.Refused r) = refused (numberOf r)
 
 abbrev pub grantingOf : Granting → Answer
-grantingOf (granting.Bytes n) = granted n
+grantingOf (granting.Bytes g) = granted (g .reserved) (g .pool)
 grantingOf (granting.Refused r) = refused (numberOf r)
 
 -- the n words of RCID 0 after a reset

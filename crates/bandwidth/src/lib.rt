@@ -9,6 +9,7 @@ mod window;
 use access::Ack;
 use access::Reading;
 use access::Refusal;
+use bandwidth_grants::Grant;
 use bandwidth_setup::Setup;
 pub use check::Totals;
 pub use reset::reset_row;
@@ -23,9 +24,9 @@ pub struct Record {
     pub pool: u64,
 }
 
-// The answer of a request.
+// The answer of a request: the bytes of the reservation and of the pool, or why it is refused.
 pub enum Granting {
-    Bytes(u64),
+    Bytes(Grant),
     Refused(Refusal),
 }
 

@@ -54,11 +54,12 @@ impl Record {
             bytes as u64,
         );
         self.pool = given.pool;
-        let sum = given.bytes;
+        let sum = given.sum;
+        let grant = given.grant;
         count_bytes(setup.w, counters, events, mcid, at, kind, sum);
         Served {
             record: self,
-            granting: Granting::Bytes(sum),
+            granting: Granting::Bytes(grant),
         }
     }
 

@@ -16,7 +16,8 @@ use Rattle.access.specs.Pairs.{pair, wordAt}
 use Rattle.access.proofs.Pairs.{pair-inside}
 use Rattle.bandwidth_model.specs.Rules.{Setup, pairs, weightOf, reserved, sharedAtOf, isHolder, isSharer, useSharedOf, total, Holder, nobody, held, holderOf, poolOf}
 use Rattle.bandwidth_model.specs.View.{Ranges}
-use Rattle.bandwidth_model.specs.Model.{Usage, usageOk, fromReservation, fromPool, Grant, grantOf, grantSum, spend}
+use Rattle.bandwidth_model.specs.Calls.{Grant}
+use Rattle.bandwidth_model.specs.Model.{Usage, usageOk, fromReservation, fromPool, grantOf, spend}
 use Rattle.bandwidth_model.proofs.Words.{reserved-le, shared-0, sharer-shared}
 use Rattle.bandwidth_model.proofs.Settings.{View, unset, holds, follows, TableFacts}
 use Rattle.bandwidth_settings.proofs.Rows.{row-word, row-set}
@@ -102,12 +103,12 @@ module _ (su : Setup) (u : Usage) (r : Ranges su) (t : TableFacts su (u .active)
   spending none x left gave e =
       rw (ap (λ (v : Usage). v .used) e, ap (λ (v : Usage). v .pool) e, part-same (u .used) from (to - from)) refl
   spending (one {s} l) x left gave e =
-      rw (ap (λ (v : Usage). v .used) e, ap (λ (v : Usage). v .pool) e, row-word w hr (u .used) s l, row-set w hr (u .used) s l (getD (u .used) (pair (su .na) rcid s) 0 + x .reservation)) refl
+      rw (ap (λ (v : Usage). v .used) e, ap (λ (v : Usage). v .pool) e, row-word w hr (u .used) s l, row-set w hr (u .used) s l (getD (u .used) (pair (su .na) rcid s) 0 + x .reserved)) refl
 
   -- the row's request is the model's
-  module _ {left : List ℕ} {sum gave : ℕ} (g : RowGiven su (total (u .active)) words used (u .pool) at bytes left sum gave) where
-    pub row-sum : sum ≡ grantSum (grantOf su u holder bytes)
-    row-sum = g .sum-is ∙ ap grantSum (grants leads)
+  module _ {left : List ℕ} {x : Grant} {sum gave : ℕ} (g : RowGiven su (total (u .active)) words used (u .pool) at bytes left x sum gave) where
+    pub row-granted : x ≡ grantOf su u holder bytes
+    row-granted = g .grant-is ∙ grants leads
 
     pub row-spent : usage (u .active) (withPart from (to - from) (u .used) left) gave ≡ spend u holder (grantOf su u holder bytes)
     row-spent = spending leads _ left gave (g .spent ∙ ap (spend (usage words used (u .pool)) (holderIn words at)) (grants leads))

@@ -1,5 +1,5 @@
 -- Steps of the proofs: each from what its own steps give, so that a step that gives another number is refused as that.
-use mathlib.Core.Path.{_≡_, ap}
+use mathlib.Core.Path.{_≡_, refl}
 use mathlib.Core.Bool.{Bool, true, false, cond}
 use mathlib.Core.List.{List}
 use Prim.Native.Nat.{ℕ, _+_, _-_, _*_, _≤_, min}
@@ -9,7 +9,8 @@ use lib.Dec.{eqb}
 use lib.ListN.{getD, set}
 use Rattle.tables.specs.View.{Small}
 use Rattle.bandwidth_model.specs.Rules.{Setup, weightOf, sharedAtOf, isHolder, isSharer, reserved, Holder, nobody, held}
-use Rattle.bandwidth_model.specs.Model.{fromReservation, Grant, grantSum, spend}
+use Rattle.bandwidth_model.specs.Calls.{Grant, grantSum}
+use Rattle.bandwidth_model.specs.Model.{fromReservation, spend}
 use Rattle.bandwidth_grants.specs.View.{usage}
 use Rattle.bandwidth_grants.specs.Grants.{holderIn, poolIn, grantIn, Granted, Fits, RowFits, RowGiven}
 
@@ -39,12 +40,12 @@ pool-steps all taken q pool rest word blocks weight left most r e f g h k =
 pub held-steps : {su : Setup} {taken : ℕ} {row used : List ℕ} {pool i : ℕ} (bytes word old own rest : ℕ) → word ≡ getD row i 0 → old ≡ getD used i 0
     → Small (min bytes (reserved word * su .q - old)) bytes own
     → Small (cond (eqb (weightOf word) 0) 0 (min (bytes - own) ((su .nbwblks - taken) * su .q - pool))) (bytes - own) rest
-    → Granted su taken row used pool (held i) bytes (record { reservation = own; pool = rest })
+    → Granted su taken row used pool (held i) bytes (record { reserved = own; pool = rest })
 unfolding grantIn poolIn fromReservation
 held-steps bytes word old own rest e f g h = record { is = cc (g .is, h .is); sum = omega (arith, g .small, h .small) }
 
 -- a grant spent
-pub spend-steps : (row used left : List ℕ) (pool i old : ℕ) (g : Grant) → old ≡ getD used i 0 → left ≡ set used i (old + g .reservation)
+pub spend-steps : (row used left : List ℕ) (pool i old : ℕ) (g : Grant) → old ≡ getD used i 0 → left ≡ set used i (old + g .reserved)
     → usage row left (pool + g .pool) ≡ spend (usage row used pool) (held i) g
 unfolding spend
 spend-steps row used left pool i old g e f = cc
@@ -56,6 +57,6 @@ module _ {su : Setup} {reserved : ℕ} {row used : List ℕ} {pool at bytes : �
   give-fits f = rw (i .is, e) (f .fits)
 
   pub give-steps : {left : List ℕ} {gave : ℕ} → usage row left gave ≡ spend (usage row used pool) h g
-      → RowGiven su reserved row used pool at bytes left (g .reservation + g .pool) gave
+      → RowGiven su reserved row used pool at bytes left g (g .reserved + g .pool) gave
   unfolding grantSum
-  give-steps p = record { sum-is = rw (← e) (ap grantSum (i .is)); spent = rw (← e, ← i .is) p; small = i .sum }
+  give-steps p = record { grant-is = rw (← e) (i .is); sum-is = refl; spent = rw (← e, ← i .is) p; small = i .sum }

@@ -2,6 +2,7 @@
 use mathlib.Core.List.{List}
 use Prim.Native.Nat.{ℕ}
 use Rattle.bandwidth_model.specs.Rules as rules
+use Rattle.bandwidth_model.specs.Calls as calls
 use Rattle.bandwidth_model.specs.Model as model
 use Rattle.bandwidth_grants.specs.declared.Holder.{Holder}
 use Rattle.bandwidth_grants.specs.declared.Holder.the-variants.{Nobody, Held}
@@ -14,5 +15,5 @@ abbrev pub holderFrom : Holder → rules.Holder
 holderFrom Nobody = rules.nobody
 holderFrom (Held i) = rules.held i
 
-abbrev pub grantFrom : Grant → model.Grant
-grantFrom g = record { reservation = g .reservation; pool = g .pool }
+abbrev pub grantFrom : Grant → calls.Grant
+grantFrom g = record { reserved = g .reserved; pool = g .pool }

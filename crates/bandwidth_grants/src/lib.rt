@@ -28,10 +28,10 @@ enum Holder {
     Held(u64),
 }
 
-// The bytes granted from the holder's reservation and from the pool.
-struct Grant {
-    reservation: u64,
-    pool: u64,
+// The bytes granted: reserved ones, of the holder's reservation, and those of the pool.
+pub struct Grant {
+    pub reserved: u64,
+    pub pool: u64,
 }
 
 // The AT that a sharer shares.
@@ -92,14 +92,14 @@ fn grant_of(
 {
     match holder {
         Holder::Nobody => Grant {
-            reservation: 0,
+            reserved: 0,
             pool: 0,
         },
         Holder::Held(i) => {
             let word = word32(row, i as usize) as u64;
             let own = from_reservation(setup, word, word32(used, i as usize) as u64, bytes);
             Grant {
-                reservation: own,
+                reserved: own,
                 pool: from_pool(setup, word, reserved, pool, bytes - own),
             }
         }
@@ -115,15 +115,16 @@ fn spend(used: &mut [u32], pool: u64, holder: Holder, grant: Grant) -> u64
         Holder::Nobody => pool,
         Holder::Held(i) => {
             let old = word32(used, i as usize) as u64;
-            put32(used, i as usize, (old + grant.reservation) as u32);
+            put32(used, i as usize, (old + grant.reserved) as u32);
             pool + grant.pool
         }
     }
 }
 
-// The bytes that a request is granted, and what the pool gave with them.
+// What a request is granted and the sum of both amounts, and what the pool gave with them to all.
 pub struct Given {
-    pub bytes: u64,
+    pub grant: Grant,
+    pub sum: u64,
     pub pool: u64,
 }
 
@@ -138,13 +139,14 @@ pub fn give(
     bytes: u64,
 ) -> Given
     requires { ⌜ RowFits (setupOf setup) reserved (now row) (now used) pool at bytes ⌝ }
-    ensures { λ r. ⌜ RowGiven (setupOf setup) reserved (now (row .entry)) (now (used .entry)) pool at bytes (now (used .exit)) (r .bytes) (r .pool) ⌝ }
+    ensures { λ r. ⌜ RowGiven (setupOf setup) reserved (now (row .entry)) (now (used .entry)) pool at bytes (now (used .exit)) (grantFrom (r .grant)) (r .sum) (r .pool) ⌝ }
 {
     let holder = holder_of(row, at);
     let grant = grant_of(setup, row, used, pool, reserved, holder, bytes);
     let pool = spend(used, pool, holder, grant);
     Given {
-        bytes: grant.reservation + grant.pool,
+        grant,
+        sum: grant.reserved + grant.pool,
         pool,
     }
 }

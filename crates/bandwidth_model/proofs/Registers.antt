@@ -87,10 +87,10 @@ acts = record { put = settled; Fits = Fits; Right = TableFacts; low = λ su p h.
 abbrev Sets : State → State → List (Setting ℕ) → Bool → Type 0
 Sets = shared.Sets (parts .setup) acts (parts .table)
 
-sets-call : (s : State) (asked granted : List ℕ) (sum : ℕ) (closed : List Window) (c : Call)
-    → Sets s (perform s c .state) (settingsBy (ledgerBy s asked granted sum closed) c) (isReset (kindOf c))
+sets-call : (s : State) (asked pooled : List ℕ) (sum : ℕ) (closed : List Window) (c : Call)
+    → Sets s (perform s c .state) (settingsBy (ledgerBy s asked pooled sum closed) c) (isReset (kindOf c))
 unfolding settingsBy writeAlloc writeBw tableAfter
-sets-call s asked granted sum closed =
+sets-call s asked pooled sum closed =
     let su = s .setup in
     let conf = s .alloc .configured in
     let bw = s .alloc .bw in
@@ -108,7 +108,7 @@ setting = record {
   same = λ s l i. sym (ap (λ (k : Ledger). k .setup) (i .same));
   right = λ s l i. i .good .alloc .configured;
   sets = λ s l i c.
-      subst⁻¹ (λ (k : Ledger). Sets s (perform s c .state) (settingsBy k c) (isReset (kindOf c))) (i .same) (sets-call s (i .asked) (i .granted) (i .sum) (i .closed) c);
+      subst⁻¹ (λ (k : Ledger). Sets s (perform s c .state) (settingsBy k c) (isReset (kindOf c))) (i .same) (sets-call s (i .asked) (i .pooled) (i .sum) (i .closed) c);
 }
 
 -- what stands of a setting

@@ -9,6 +9,7 @@ use stream::start;
 ghost use mathlib.Core.Path.{_≡_};
 ghost use Prim.Native.Nat.{_*_, _≤_};
 ghost use lib.ListN.{length, take};
+ghost use Rattle.print.specs.Print.{lineRoom};
 ghost use Rattle.session.specs.View.{controllerOf, Tables};
 ghost use Rattle.stream.specs.Stream.{Fed};
 
@@ -29,7 +30,7 @@ fn turn(
     chunk: &mut [u8],
     out: &mut [u8],
 ) -> Chunk
-    requires { ⌜ Tables (now active) (now configured) (now used) (now counters) (now events) × (24 * length (now chunk) ≤ length (now out)) ⌝ }
+    requires { ⌜ Tables (now active) (now configured) (now used) (now counters) (now events) × (lineRoom * length (now chunk) ≤ length (now out)) ⌝ }
     ensures { λ r. ⌜ Fed (controllerOf (state .«record») (now (active .entry)) (now (configured .entry)) (now (used .entry)) (now (counters .entry)) (now (events .entry))) (take (state .len) (state .line)) (take (r .got) (now (chunk .exit)))
         (controllerOf (r .progress .state .«record») (now (active .exit)) (now (configured .exit)) (now (used .exit)) (now (counters .exit)) (now (events .exit))) (take (r .progress .state .len) (r .progress .state .line)) (now (out .exit)) (r .progress .used) ⌝ }
 {
@@ -58,7 +59,7 @@ fn listen(
     chunk: &mut [u8],
     out: &mut [u8],
 )
-    requires { ⌜ Tables (now active) (now configured) (now used) (now counters) (now events) × ((1 ≤ length (now chunk)) × (24 * length (now chunk) ≤ length (now out))) ⌝ }
+    requires { ⌜ Tables (now active) (now configured) (now used) (now counters) (now events) × ((1 ≤ length (now chunk)) × (lineRoom * length (now chunk) ≤ length (now out))) ⌝ }
 {
     let mut state = start();
     let mut turns = u64::MAX;
@@ -111,11 +112,11 @@ fn chunk_room() -> [u8; 8192]
     [0; 8192]
 }
 
-// 24 bytes for each byte of a chunk.
-fn out_room() -> [u8; 196608]
-    ensures { λ r. ⌜ 196608 ≡ length r ⌝ }
+// Room for a line for each byte of a chunk.
+fn out_room() -> [u8; 344064]
+    ensures { λ r. ⌜ 344064 ≡ length r ⌝ }
 {
-    [0; 196608]
+    [0; 344064]
 }
 
 fn main() {

@@ -12,7 +12,7 @@ use lib.Seq.{drop-cons, drop-drop, drop-length, take-all, take-take, take-suc-se
 use Rattle.parse.specs.Parse.{parseOf}
 use Rattle.parse.specs.declared.Command.{Command}
 use Rattle.print.specs.declared.Reply.{Reply}
-use Rattle.print.specs.Print.{lineOf, Wrote}
+use Rattle.print.specs.Print.{lineOf, lineRoom, Wrote}
 use Rattle.print.proofs.Laws.{beyond, wrote-as}
 use Rattle.session.specs.Session.{Controller, Turn, turn, turnOf}
 use Rattle.session.specs.View.{controllerOf, KeptFrom}
@@ -25,7 +25,7 @@ use Rattle.stream.proofs.Whole.{fed-after, finished-after}
 
 -- parse, act and print are one answer
 pub answered : {c c′ : Controller} {line old new : List ℕ} {at r : ℕ} {command : Command} {reply : Reply} → command ≡ parseOf line
-    → turn c′ reply ≡ turnOf c command → Wrote 24 old at (lineOf reply) new r → Answered c line old at c′ new r
+    → turn c′ reply ≡ turnOf c command → Wrote lineRoom old at (lineOf reply) new r → Answered c line old at c′ new r
 unfolding afterLine printedFor
 answered {c} {c′} {line} {old} {new} {at} {r} {command} {reply} p q w =
     let o : turn c′ reply ≡ turnOf c (parseOf line) = q ∙ ap (turnOf c) p in
@@ -154,7 +154,7 @@ pub record Going (start : Stream) (chunk out₀ active₀ configured₀ used₀ 
   pub of-counters : length counters ≡ length counters₀
   pub of-events : length events ≡ length events₀
   pub size : length out ≡ length out₀
-  pub room : end + 24 * (length chunk - from) ≤ length out
+  pub room : end + lineRoom * (length chunk - from) ≤ length out
   pub is : feedOf start chunk ≡ feedOf (stream (controllerOf r active configured used counters events) (take n line) (take end out)) (drop from chunk)
   pub kept : KeptBeyond active₀ configured₀ used₀ counters₀ events₀ out₀ active configured used counters events out end
 

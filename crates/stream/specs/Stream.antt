@@ -5,7 +5,7 @@ use mathlib.Core.List.{List, [], _∷_, _++_, foldl}
 use Prim.Native.Nat.{ℕ, suc, _+_, _≤_, _<_}
 use lib.Dec.{eqb}
 use lib.ListN.{length, take, drop, getD}
-use Rattle.print.specs.Print.{Wrote}
+use Rattle.print.specs.Print.{lineRoom, Wrote}
 use Rattle.session.specs.Session.{Controller, none}
 use Rattle.session.specs.View.{controllerOf, KeptFrom}
 use Rattle.stream.specs.declared.State.{State}
@@ -79,7 +79,7 @@ Started s = (active configured used counters events : List ℕ) → stream (cont
 -- one line's answer stands at a position of new
 pub record Answered (c : Controller) (line old : List ℕ) (at : ℕ) (c′ : Controller) (new : List ℕ) (r : ℕ) : Type 0 where
   pub controller-is : c′ ≡ afterLine c line
-  pub wrote : Wrote 24 old at (printedFor c line) new r
+  pub wrote : Wrote lineRoom old at (printedFor c line) new r
 
 -- out has the first r bytes that a chunk is answered with, and a controller and held bytes follow
 pub record Fed (c : Controller) (held chunk : List ℕ) (c′ : Controller) (held′ out : List ℕ) (r : ℕ) : Type 0 where

@@ -5,6 +5,7 @@ ghost use mathlib.Core.Path.{_≡_};
 ghost use mathlib.Core.List.{_++_};
 ghost use Prim.Native.Nat.{_+_, _*_, _≤_};
 ghost use lib.ListN.{length, take};
+ghost use Rattle.print.specs.Print.{lineRoom};
 ghost use Rattle.session.specs.View.{controllerOf, Tables, KeptFrom};
 ghost use Rattle.stream.specs.Stream.{Held, Ends, Kept, joinOf, fullLine, Started, Answered, Fed, Finished, KeptBeyond};
 ghost use Rattle.stream.specs.Claim.{Claim};
@@ -40,7 +41,7 @@ fn answer(
     out: &mut [u8],
     at: usize,
 ) -> Line
-    requires { ⌜ Tables (now active) (now configured) (now used) (now counters) (now events) × (at + 24 ≤ length (now out)) ⌝ }
+    requires { ⌜ Tables (now active) (now configured) (now used) (now counters) (now events) × (at + lineRoom ≤ length (now out)) ⌝ }
     ensures answers { λ r. ⌜ Answered (controllerOf «record» (now (active .entry)) (now (configured .entry)) (now (used .entry)) (now (counters .entry)) (now (events .entry))) (now (line .entry)) (now (out .entry)) at
         (controllerOf (r .«record») (now (active .exit)) (now (configured .exit)) (now (used .exit)) (now (counters .exit)) (now (events .exit))) (now (out .exit)) (r .end) ⌝ }
     ensures tables { λ r. ⌜ KeptFrom 2048 256 (now (active .entry)) (now (configured .entry)) (now (used .entry)) (now (counters .entry)) (now (events .entry))
@@ -148,7 +149,7 @@ pub fn feed(
     chunk: &[u8],
     out: &mut [u8],
 ) -> Progress
-    requires { ⌜ Tables (now active) (now configured) (now used) (now counters) (now events) × (24 * length (now chunk) ≤ length (now out)) ⌝ }
+    requires { ⌜ Tables (now active) (now configured) (now used) (now counters) (now events) × (lineRoom * length (now chunk) ≤ length (now out)) ⌝ }
     ensures answers { λ r. ⌜ Fed (controllerOf (state .«record») (now (active .entry)) (now (configured .entry)) (now (used .entry)) (now (counters .entry)) (now (events .entry))) (take (state .len) (state .line)) (now (chunk .entry))
         (controllerOf (r .state .«record») (now (active .exit)) (now (configured .exit)) (now (used .exit)) (now (counters .exit)) (now (events .exit))) (take (r .state .len) (r .state .line)) (now (out .exit)) (r .used) ⌝ }
     ensures lent { λ r. ⌜ KeptBeyond (now (active .entry)) (now (configured .entry)) (now (used .entry)) (now (counters .entry)) (now (events .entry)) (now (out .entry))
@@ -201,7 +202,7 @@ pub fn finish(
     events: &mut [u16],
     out: &mut [u8],
 ) -> usize
-    requires { ⌜ Tables (now active) (now configured) (now used) (now counters) (now events) × (24 ≤ length (now out)) ⌝ }
+    requires { ⌜ Tables (now active) (now configured) (now used) (now counters) (now events) × (lineRoom ≤ length (now out)) ⌝ }
     ensures answers { λ r. ⌜ Finished (controllerOf (state .«record») (now (active .entry)) (now (configured .entry)) (now (used .entry)) (now (counters .entry)) (now (events .entry))) (take (state .len) (state .line)) (now (out .exit)) r ⌝ }
     ensures lent { λ r. ⌜ KeptBeyond (now (active .entry)) (now (configured .entry)) (now (used .entry)) (now (counters .entry)) (now (events .entry)) (now (out .entry))
         (now (active .exit)) (now (configured .exit)) (now (used .exit)) (now (counters .exit)) (now (events .exit)) (now (out .exit)) r ⌝ }

@@ -1,16 +1,16 @@
 -- `replay::reply_reading` meets its contract.
-use Rattle.replay.specs.Replay.{refusalOf, valueOf}
+use Rattle.replay.specs.Replay.{refusalOf, valueOf, pooledOf}
 use borrow.Author.Needs.{needs}
 use Rattle.replay.proofs.reply_reading.Statement.{statement}
 use Rattle.replay.proofs.reply_reading.Tie as tie
 
 returns : tie.Need-returns
-unfolding refusalOf valueOf
-returns c = record { number = cc; value = cc; kept = cc }
+unfolding refusalOf valueOf pooledOf
+returns c = record { number = cc; value = cc; pooled = cc; kept = cc }
 
 returns-2 : tie.Need-returns-2
-unfolding refusalOf valueOf
-returns-2 c = record { number = cc; value = cc; kept = cc }
+unfolding refusalOf valueOf pooledOf
+returns-2 c = record { number = cc; value = cc; pooled = cc; kept = cc }
 
 pub reply-reading-spec : {M : Type 1} → statement M
 reply-reading-spec = tie.close (tie.spec (λ c. search needs) (λ c. search needs) (λ c κs. search needs) returns returns-2)

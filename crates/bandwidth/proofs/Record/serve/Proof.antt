@@ -25,7 +25,7 @@ give-requires c κs =
 
 returns : tie.Need-returns
 returns c =
-    let g = c .before .before .before .before .before .before in
+    let g = c .before .before .before .before .before .before .before in
     let k = g .before .before .before .before in
     let a = k .before .before .before .before .before .before .before in
     serve-row (a .pre .0) _ _ (a .pre .1) (k .known-at .ensures) (g .before .before .before .row-at .ensures) _ _ (g .give .ensures) (c .before .before .count-bytes .ensures)
