@@ -183,11 +183,11 @@
 #include <stdint.h>
 
 /* The version of this header and of the library beside it (CHANGELOG.md).
- * CBQRI_VERSION is one number, to be compared: 4000 for 0.4.0. */
+ * CBQRI_VERSION is one number, to be compared: 5000 for 0.5.0. */
 #define CBQRI_VERSION_MAJOR 0
-#define CBQRI_VERSION_MINOR 4
+#define CBQRI_VERSION_MINOR 5
 #define CBQRI_VERSION_PATCH 0
-#define CBQRI_VERSION_STRING "0.4.0"
+#define CBQRI_VERSION_STRING "0.5.0"
 #define CBQRI_VERSION                                                                     \
     (CBQRI_VERSION_MAJOR * 1000000 + CBQRI_VERSION_MINOR * 1000 + CBQRI_VERSION_PATCH)
 
