@@ -280,45 +280,51 @@ static struct call random_call(const struct setup *s, int bandwidth)
 
 /* A call on slices */
 
+/* The numbers that a call hands back go to out: that of a read or a fill to the
+ * first place, a request's reserved bytes to the first and its pool bytes to the
+ * second. */
+enum { NUMBERS = 2 };
+
 #define FOUR(s)                                                                \
     (s)[0].at, (s)[0].length, (s)[1].at, (s)[1].length, (s)[2].at,             \
         (s)[2].length, (s)[3].at, (s)[3].length
 #define SIX(s) FOUR(s), (s)[4].at, (s)[4].length, (s)[5].at, (s)[5].length
 
 static uint64_t call_bandwidth(const struct interface *f, const struct slice *b,
-                               const struct call *c, uint64_t *out)
+                               const struct call *c, uint64_t *const out[NUMBERS])
 {
     const struct setup *s = &c->setup;
     switch (c->kind) {
     case RESET:
         return f->bandwidth_reset(s->nbwblks, s->mrbwb, s->nr, s->na, s->nm, s->q, s->w, SIX(b));
     case READ:
-        return f->bandwidth_read(SIX(b), c->size, c->offset, out);
+        return f->bandwidth_read(SIX(b), c->size, c->offset, out[0]);
     case WRITE:
         return f->bandwidth_write(SIX(b), c->size, c->offset, c->value);
     case REQUEST:
-        return f->bandwidth_request(SIX(b), c->rcid, c->mcid, c->at, c->which, c->bytes, out);
+        return f->bandwidth_request(SIX(b), c->rcid, c->mcid, c->at, c->which, c->bytes, out[0],
+                                    out[1]);
     case DEVICE_REQUEST:
         return f->bandwidth_device_request(SIX(b), c->mode, c->word, c->at, c->which, c->bytes,
-                                           out);
+                                           out[0], out[1]);
     default:
         return f->bandwidth_end_window(SIX(b));
     }
 }
 
 static uint64_t call_capacity(const struct interface *f, const struct slice *b,
-                              const struct call *c, uint64_t *out)
+                              const struct call *c, uint64_t *const out[NUMBERS])
 {
     const struct setup *s = &c->setup;
     switch (c->kind) {
     case RESET:
         return f->capacity_reset(s->ncblks, s->nr, s->na, s->nm, s->w, FOUR(b));
     case READ:
-        return f->capacity_read(FOUR(b), c->size, c->offset, out);
+        return f->capacity_read(FOUR(b), c->size, c->offset, out[0]);
     case WRITE:
         return f->capacity_write(FOUR(b), c->size, c->offset, c->value);
     case FILL:
-        return f->capacity_fill(FOUR(b), c->rcid, c->mcid, c->at, c->which, out);
+        return f->capacity_fill(FOUR(b), c->rcid, c->mcid, c->at, c->which, out[0]);
     default:
         return f->capacity_evict(FOUR(b), c->rcid, c->mcid, c->at, c->which);
     }
@@ -330,21 +336,23 @@ enum { ANSWERS = 10, KINDS = 6 };
 
 struct controller {
     const char *name, *calls[KINDS]; /* by kind, as many as it has */
+    int numbers[KINDS];              /* how many numbers a call of each kind hands back */
     int place, slices, calls_of_a_round;
     unsigned answers;            /* bit N: some call answers N */
     size_t record;               /* bytes */
     unsigned widths[MAX_SLICES]; /* bytes of a word in each slice */
     void (*random_state)(const struct slice *list, const struct setup *s);
     uint64_t (*call)(const struct interface *f, const struct slice *list, const struct call *c,
-                     uint64_t *out);
+                     uint64_t *const out[NUMBERS]);
 };
 
 enum { CONTROLLERS = 2 };
 static const struct controller controllers[CONTROLLERS] = {
-    {"bandwidth", {"reset", "read", "write", "request", "end_window", "device_request"}, 0,
-     BANDWIDTH_SLICES_END, 24, 0x2ff, 96, {8, 4, 4, 4, 8, 2}, random_bandwidth, call_bandwidth},
-    {"capacity", {"reset", "read", "write", "fill", "evict"}, 1, CAPACITY_SLICES_END, 12, 0x1ff, 72,
-     {8, 8, 8, 2}, random_capacity, call_capacity},
+    {"bandwidth", {"reset", "read", "write", "request", "end_window", "device_request"},
+     {0, 1, 0, 2, 0, 2}, 0, BANDWIDTH_SLICES_END, 24, 0x2ff, 96, {8, 4, 4, 4, 8, 2},
+     random_bandwidth, call_bandwidth},
+    {"capacity", {"reset", "read", "write", "fill", "evict"}, {0, 1, 0, 1, 0}, 1,
+     CAPACITY_SLICES_END, 12, 0x1ff, 72, {8, 8, 8, 2}, random_capacity, call_capacity},
 };
 
 /* Slices with memory of their own, for the largest set-up. */

@@ -48,7 +48,7 @@ static void put_hexadecimal(uint64_t value)
     answered += 17;
 }
 
-static void put_decimal(uint64_t value)
+static void put_decimal(uint64_t value, char after)
 {
     char digits[20];
     size_t first = sizeof digits;
@@ -56,7 +56,7 @@ static void put_decimal(uint64_t value)
         digits[--first] = (char)('0' + value % 10);
     while (value /= 10);
     put_text(digits + first, sizeof digits - first);
-    answers[answered++] = '\n';
+    answers[answered++] = after;
 }
 
 static void put_bad(void)
@@ -67,7 +67,7 @@ static void put_bad(void)
 static void put_refusal(uint64_t number)
 {
     put_text("no ", 3);
-    put_decimal(number);
+    put_decimal(number, '\n');
 }
 
 static void put_done(uint64_t refusal)
@@ -186,17 +186,19 @@ static void answer_r(struct text *t)
 
 static void answer_q(struct text *t)
 {
-    uint64_t n[5], granted;
+    uint64_t n[5], reserved, pool;
     if (!take_decimals(t, n, 5) || n[3] > 1 || n[4] > UINT32_MAX || !set_up) {
         put_bad();
         return;
     }
     uint64_t refusal = plain_bandwidth_request(BANDWIDTH_OF(&controller), n[0], n[1], n[2], n[3],
-                                               (uint32_t)n[4], &granted);
-    if (refusal)
+                                               (uint32_t)n[4], &reserved, &pool);
+    if (refusal) {
         put_refusal(refusal);
-    else
-        put_decimal(granted);
+        return;
+    }
+    put_decimal(reserved, ' ');
+    put_decimal(pool, '\n');
 }
 
 static void answer_e(const struct text *t)

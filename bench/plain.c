@@ -601,39 +601,44 @@ static bool kind_matches(uint32_t setting, uint64_t kind)
 }
 
 static void count_bytes(struct bandwidth *b, uint64_t mcid, uint64_t at,
-                        uint64_t kind, uint64_t granted)
+                        uint64_t kind, uint64_t bytes)
 {
     uint32_t setting = load16(b->monitor.events, mcid);
     if (!kind_matches(setting, kind) || !at_matches(setting, at))
         return;
     uint64_t counter = load64(b->monitor.counters, mcid);
-    uint64_t sum = (counter & ~BANDWIDTH_FLAGS) + granted;
+    uint64_t sum = (counter & ~BANDWIDTH_FLAGS) + bytes;
     uint64_t flags = counter & BANDWIDTH_FLAGS;
     if (sum >> b->r.w)
         flags |= BANDWIDTH_OVF;
     store64(b->monitor.counters, mcid, field(sum, 0, (unsigned)b->r.w) | flags);
 }
 
+/* Bytes of the holder's reservation and of the pool. */
+struct grant {
+    uint64_t reserved, pool;
+};
+
 /* Takes bytes from the holder's reservation, then from the pool. */
-static uint64_t grant(struct bandwidth *b, uint64_t pair, uint64_t bytes)
+static struct grant take_bytes(struct bandwidth *b, uint64_t pair, uint64_t bytes)
 {
     uint32_t word = load32(b->active, pair);
     uint64_t used = load32(b->used, pair);
-    uint64_t own = smaller(bytes, (word & RBWB) * b->r.q - used);
-    store32(b->used, pair, (uint32_t)(used + own));
+    struct grant g = {smaller(bytes, (word & RBWB) * b->r.q - used), 0};
+    store32(b->used, pair, (uint32_t)(used + g.reserved));
     if (!(word & MWEIGHT))
-        return own;
-    uint64_t pool = (b->r.nbwblks - b->active_sum) * b->r.q - b->r.pool_given;
-    uint64_t extra = smaller(bytes - own, pool);
-    b->r.pool_given += extra;
-    return own + extra;
+        return g;
+    uint64_t left = (b->r.nbwblks - b->active_sum) * b->r.q - b->r.pool_given;
+    g.pool = smaller(bytes - g.reserved, left);
+    b->r.pool_given += g.pool;
+    return g;
 }
 
 /* The request of an opened controller; out_of_range is the refusal where an
  * identifier is. */
 static uint64_t request(struct bandwidth *b, uint64_t out_of_range, uint64_t rcid,
                         uint64_t mcid, uint64_t at, uint64_t kind, uint32_t bytes,
-                        uint64_t *granted)
+                        uint64_t *reserved, uint64_t *pool)
 {
     if (rcid >= b->r.nr || mcid >= b->r.nm)
         return out_of_range;
@@ -644,9 +649,11 @@ static uint64_t request(struct bandwidth *b, uint64_t out_of_range, uint64_t rci
     if (word == 0)
         return 0;
     uint64_t holder = word & USE_SHARED ? field(word, SHARED_AT_LOW, 3) : at;
-    *granted = grant(b, row + holder, bytes);
-    count_bytes(b, mcid, at, kind, *granted);
+    struct grant g = take_bytes(b, row + holder, bytes);
+    count_bytes(b, mcid, at, kind, g.reserved + g.pool);
     bandwidth_save(b);
+    *reserved = g.reserved;
+    *pool = g.pool;
     return 0;
 }
 
@@ -738,30 +745,30 @@ uint64_t NAME(bandwidth_write)(BANDWIDTH_SLICES(), uint64_t size,
 
 uint64_t NAME(bandwidth_request)(BANDWIDTH_SLICES(), uint64_t rcid,
                                  uint64_t mcid, uint64_t at, uint64_t kind,
-                                 uint32_t bytes, uint64_t *granted)
+                                 uint32_t bytes, uint64_t *reserved, uint64_t *pool)
 {
     struct bandwidth b;
-    *granted = 0;
+    *reserved = *pool = 0;
     uint64_t refusal = bandwidth_open(&b, BANDWIDTH_PASSED);
     if (refusal)
         return refusal;
-    return request(&b, REFUSED_IDENTIFIER, rcid, mcid, at, kind, bytes, granted);
+    return request(&b, REFUSED_IDENTIFIER, rcid, mcid, at, kind, bytes, reserved, pool);
 }
 
 uint64_t NAME(bandwidth_device_request)(BANDWIDTH_SLICES(), uint64_t mode,
                                         uint64_t word, uint64_t at, uint64_t kind,
-                                        uint32_t bytes, uint64_t *granted)
+                                        uint32_t bytes, uint64_t *reserved, uint64_t *pool)
 {
     struct bandwidth b;
-    *granted = 0;
+    *reserved = *pool = 0;
     uint64_t refusal = bandwidth_open(&b, BANDWIDTH_PASSED);
     if (refusal)
         return refusal;
     if (mode <= 1) /* off or bare: iommu_qosid */
         return request(&b, REFUSED_IDENTIFIER, field(word, 0, 12), field(word, 16, 12), at,
-                       kind, bytes, granted);
+                       kind, bytes, reserved, pool);
     return request(&b, REFUSED_DEVICE_CONTEXT, field(word, 40, 12), field(word, 52, 12), at,
-                   kind, bytes, granted); /* DC.ta */
+                   kind, bytes, reserved, pool); /* DC.ta */
 }
 
 uint64_t NAME(bandwidth_end_window)(BANDWIDTH_SLICES())

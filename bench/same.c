@@ -1,8 +1,9 @@
 /*
  * Runs versions of the C interface side by side on the same random states,
- * well-formed and damaged ones, and the same random calls: answers and every byte
- * of record and tables must be equal. The first version is plain.c; the others
- * are tuned.c and, compiled with -DWITH_LIBRARY, the library.
+ * well-formed and damaged ones, and the same random calls: answers, numbers that
+ * are handed back and every byte of record and tables must be equal. The first
+ * version is plain.c; the others are tuned.c and, compiled with -DWITH_LIBRARY,
+ * the library.
  *
  *     same [rounds] [seed]
  */
@@ -47,17 +48,17 @@ static void differs(const struct controller *k, const struct interface *f, const
 static void compare(const struct controller *k, const struct slice *list, const struct call *c)
 {
     static struct memory mine, first;
-    uint64_t first_out = 1, first_answer = 0;
+    uint64_t first_numbers[NUMBERS], first_answer = 0;
     for (int v = 0; v < VERSIONS; v++) {
-        uint64_t out = 1;
+        uint64_t numbers[NUMBERS] = {1, 1}, *const out[NUMBERS] = {&numbers[0], &numbers[1]};
         copy_slices(&mine, list, k->slices);
-        uint64_t answer = k->call(&versions[v], mine.list, c, &out);
+        uint64_t answer = k->call(&versions[v], mine.list, c, out);
         if (v == 0) {
             copy_slices(&first, mine.list, k->slices);
-            first_out = out;
+            memcpy(first_numbers, numbers, sizeof numbers);
             first_answer = answer;
         }
-        if (answer != first_answer || out != first_out ||
+        if (answer != first_answer || memcmp(numbers, first_numbers, sizeof numbers) ||
             !same_slices(mine.list, first.list, k->slices) ||
             (answer && !same_slices(mine.list, list, k->slices)))
             differs(k, &versions[v], c);

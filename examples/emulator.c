@@ -74,12 +74,20 @@ static void mmio_write(uint64_t address, uint64_t size, uint64_t value)
 
 /* ---- The machine: traffic ---- */
 
+/* Reserved bytes are there in every window; those of the pool may be gone in the next. */
+static void print_grant(uint64_t reserved, uint64_t pool)
+{
+    printf("%4" PRIu64 " reserved, %4" PRIu64 " of the pool\n", reserved, pool);
+}
+
 static void request(uint64_t rcid, uint64_t mcid, uint64_t at, int write, uint32_t bytes)
 {
-    uint64_t granted;
-    must(cbqri_bw_request(&bw, rcid, mcid, at, (uint64_t)write, bytes, &granted), "request");
-    printf("  RCID %" PRIu64 " AT %" PRIu64 " MCID %" PRIu64 " %s %4" PRIu32 ": %4" PRIu64
-           " granted\n", rcid, at, mcid, write ? "writes" : "reads ", bytes, granted);
+    uint64_t reserved, pool;
+    must(cbqri_bw_request(&bw, rcid, mcid, at, (uint64_t)write, bytes, &reserved, &pool),
+         "request");
+    printf("  RCID %" PRIu64 " AT %" PRIu64 " MCID %" PRIu64 " %s %4" PRIu32 ": ", rcid, at, mcid,
+           write ? "writes" : "reads ", bytes);
+    print_grant(reserved, pool);
 }
 
 static void fill(uint64_t rcid, uint64_t mcid, uint64_t at, uint64_t block)
@@ -135,15 +143,16 @@ static uint64_t iommu_mode = CBQRI_IOMMU_BARE, iommu_qosid, dc_ta[2];
 static void dma(unsigned device, int write, uint32_t bytes)
 {
     uint64_t word = iommu_mode <= CBQRI_IOMMU_BARE ? iommu_qosid : dc_ta[device];
-    uint64_t granted, refusal;
-    refusal = cbqri_bw_device_request(&bw, iommu_mode, word, 0, (uint64_t)write, bytes, &granted);
+    uint64_t reserved, pool, refusal;
+    refusal = cbqri_bw_device_request(&bw, iommu_mode, word, 0, (uint64_t)write, bytes, &reserved,
+                                      &pool);
     printf("  device %u %s %4" PRIu32 ": ", device, write ? "writes" : "reads ", bytes);
     if (refusal == CBQRI_REFUSED_DEVICE_CONTEXT) {
         printf("DDT entry misconfigured\n");
         return;
     }
     must(refusal, "device's request");
-    printf("%4" PRIu64 " granted\n", granted);
+    print_grant(reserved, pool);
 }
 
 /* ---- The driver: it knows base addresses and registers only ---- */

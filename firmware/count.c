@@ -15,7 +15,7 @@ static uint64_t instructions(void)
 }
 
 /* What a call hands back, and whether any was refused. */
-static uint64_t out, refused;
+static uint64_t out, pool, refused;
 static const struct setup *size;
 
 /* The instructions of one call. */
@@ -32,9 +32,9 @@ static const struct setup *size;
 COUNT(bandwidth_reset, NBWBLKS, MRBWB, size->nr, size->na, size->nm, Q, W, BANDWIDTH)
 COUNT(bandwidth_read, BANDWIDTH, 8, CBQRI_BW_ALLOC, &out)
 COUNT(bandwidth_write, BANDWIDTH, 8, CBQRI_ALLOC_CTL, a->ctl)
-COUNT(bandwidth_request, BANDWIDTH, a->rcid, a->mcid, a->at, a->which, a->bytes, &out)
+COUNT(bandwidth_request, BANDWIDTH, a->rcid, a->mcid, a->at, a->which, a->bytes, &out, &pool)
 COUNT(bandwidth_device_request, BANDWIDTH, CBQRI_IOMMU_DIRECTORY, a->ta, a->at, a->which, a->bytes,
-      &out)
+      &out, &pool)
 COUNT(bandwidth_end_window, BANDWIDTH)
 COUNT(capacity_reset, NCBLKS, size->nr, size->na, size->nm, W, CAPACITY)
 COUNT(capacity_read, CAPACITY, 8, CBQRI_BLOCK_MASK, &out)

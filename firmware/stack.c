@@ -51,7 +51,7 @@ static uint64_t used_stack(void)
 static const struct { uint64_t nr, na, nm; } sizes[] = {
     {1, 1, 1}, {4, 2, 4}, {16, 8, 64}, {64, 2, 16}, {43, 3, 100}, {256, 8, 256}};
 enum { SIZES = sizeof sizes / sizeof sizes[0] };
-static uint64_t nr, na, nm, offset, value, out;
+static uint64_t nr, na, nm, offset, value, out, pool;
 static struct bandwidth_buffers bw;
 static struct capacity_buffers cc;
 
@@ -64,9 +64,9 @@ static struct capacity_buffers cc;
 ENTRY(bandwidth_reset, 100, 80, nr, na, nm, 64, 24, BANDWIDTH_OF(&bw))
 ENTRY(bandwidth_read, BANDWIDTH_OF(&bw), 8, offset, &out)
 ENTRY(bandwidth_write, BANDWIDTH_OF(&bw), 8, offset, value)
-ENTRY(bandwidth_request, BANDWIDTH_OF(&bw), 0, 0, 0, 0, 6000, &out)
+ENTRY(bandwidth_request, BANDWIDTH_OF(&bw), 0, 0, 0, 0, 6000, &out, &pool)
 ENTRY(bandwidth_device_request, BANDWIDTH_OF(&bw), CBQRI_IOMMU_DIRECTORY, cbqri_dc_ta(0, 0), 0, 0,
-      6000, &out)
+      6000, &out, &pool)
 ENTRY(bandwidth_end_window, BANDWIDTH_OF(&bw))
 ENTRY(capacity_reset, 40, nr, na, nm, 24, CAPACITY_OF(&cc))
 ENTRY(capacity_read, CAPACITY_OF(&cc), 8, offset, &out)

@@ -53,27 +53,41 @@ static uint64_t limit(uint64_t ctl, uint64_t bw_alloc)
     return cbqri_status(operation(CBQRI_ALLOC_CTL, ctl));
 }
 
-static uint64_t granted(uint64_t rcid, uint64_t at, uint32_t bytes)
+/* Bytes of the reservation and of the pool. */
+struct grant {
+    uint64_t reserved, pool;
+};
+
+static void expect_grant(const char *name, struct grant got, uint64_t reserved, uint64_t pool)
 {
-    uint64_t given = 0;
-    failed |= cbqri_bandwidth_request(BANDWIDTH_OF(&b), rcid, 0, at, 0, bytes, &given) != 0;
-    return given;
+    int right = got.reserved == reserved && got.pool == pool;
+    printf("%s: %" PRIu64 " reserved, %" PRIu64 " of the pool%s\n", name, got.reserved, got.pool,
+           right ? "" : " IS WRONG");
+    failed |= !right;
 }
 
-static uint64_t device_granted(uint64_t mode, uint64_t word, uint64_t at, uint32_t bytes)
+static struct grant granted(uint64_t rcid, uint64_t at, uint32_t bytes)
 {
-    uint64_t given = 0;
+    struct grant g = {1, 1};
+    failed |= cbqri_bandwidth_request(BANDWIDTH_OF(&b), rcid, 0, at, 0, bytes, &g.reserved,
+                                      &g.pool) != 0;
+    return g;
+}
+
+static struct grant device_granted(uint64_t mode, uint64_t word, uint64_t at, uint32_t bytes)
+{
+    struct grant g = {1, 1};
     failed |= cbqri_bandwidth_device_request(BANDWIDTH_OF(&b), mode, word, at, 0, bytes,
-                                             &given) != 0;
-    return given;
+                                             &g.reserved, &g.pool) != 0;
+    return g;
 }
 
 static uint64_t device_refusal(uint64_t mode, uint64_t word)
 {
-    uint64_t given = 1;
+    struct grant g = {1, 1};
     uint64_t answer = cbqri_bandwidth_device_request(BANDWIDTH_OF(&b), mode, word, 0, 0, 10,
-                                                     &given);
-    failed |= given != 0;
+                                                     &g.reserved, &g.pool);
+    failed |= g.reserved != 0 || g.pool != 0;
     return answer;
 }
 
@@ -95,11 +109,11 @@ static void settings_cases(void)
 
 static void window_cases(void)
 {
-    expect("P8", granted(1, 0, 10), 0);
+    expect_grant("P8", granted(1, 0, 10), 0, 0);
     expect("window end", cbqri_bandwidth_end_window(BANDWIDTH_OF(&b)), 0);
-    expect("P9", granted(1, 1, 2000), 2000);
-    expect("P9 of the reservation", get_word(b.used, 1 * 2 + 0, 4), 1920);
-    expect("P9 of the pool", get_word(b.record, 11, 8), 80);
+    expect_grant("P9", granted(1, 1, 2000), 1920, 80);
+    expect("P9 used of the reservation", get_word(b.used, 1 * 2 + 0, 4), 1920);
+    expect("P9 given by the pool", get_word(b.record, 11, 8), 80);
     expect("P10", cbqri_status(operation(CBQRI_MON_CTL, 0x100201)), 1);
     expect("P10 with event 4", cbqri_status(operation(CBQRI_MON_CTL, 0x400201)), 4);
 }
@@ -108,13 +122,14 @@ static void window_cases(void)
  * left, and MCID 2 counts all bytes. */
 static void device_cases(void)
 {
-    expect("device, bare", device_granted(CBQRI_IOMMU_BARE, 0x00010002, 0, 300), 300);
-    expect("device, off", device_granted(CBQRI_IOMMU_OFF, UINT64_C(0xfffffffff003f002), 0, 900),
-           900);
-    expect("device, off, of the reservation", get_word(b.used, 2 * 2 + 0, 4), 1200);
-    expect("device, directory", device_granted(CBQRI_IOMMU_DIRECTORY, cbqri_dc_ta(1, 2), 1, 700),
-           700);
-    expect("device, mode 3", device_granted(3, UINT64_C(0x002001ffffffffff), 1, 2000), 500);
+    expect_grant("device, bare", device_granted(CBQRI_IOMMU_BARE, 0x00010002, 0, 300), 300, 0);
+    expect_grant("device, off",
+                 device_granted(CBQRI_IOMMU_OFF, UINT64_C(0xfffffffff003f002), 0, 900), 900, 0);
+    expect("device, off, used of the reservation", get_word(b.used, 2 * 2 + 0, 4), 1200);
+    expect_grant("device, directory",
+                 device_granted(CBQRI_IOMMU_DIRECTORY, cbqri_dc_ta(1, 2), 1, 700), 0, 700);
+    expect_grant("device, mode 3", device_granted(3, UINT64_C(0x002001ffffffffff), 1, 2000), 0,
+                 500);
     expect("device, MCID 2", get_word(b.counters, 2, 8), 1200);
     expect("device, bare, RCID 4", device_refusal(CBQRI_IOMMU_BARE, cbqri_iommu_qosid(4, 0)), 7);
     expect("device, off, MCID 4", device_refusal(CBQRI_IOMMU_OFF, cbqri_iommu_qosid(0, 4)), 7);
@@ -141,7 +156,7 @@ static void lone_cases(void)
     set_up(2);
     operation(CBQRI_MON_CTL, cbqri_mon_ctl(CBQRI_CONFIG_EVENT, 0, 0, CBQRI_EVENT_BYTES, 0));
     put_word(b.counters, 0, 8, 16777000);
-    expect("P11 grant", granted(0, 0, 300), 300);
+    expect_grant("P11 grant", granted(0, 0, 300), 300, 0);
     operation(CBQRI_MON_CTL, cbqri_mon_ctl(CBQRI_READ_COUNTER, 0, 0, 0, 0));
     expect("P11", read_register(CBQRI_MON_CTR_VAL), 84 | CBQRI_BANDWIDTH_OVF);
     set_up(1);
@@ -162,15 +177,17 @@ static void add(struct trace *t, const uint8_t *bytes, size_t length)
         t->checksum = (t->checksum ^ bytes[i]) * UINT64_C(0x100000001b3);
 }
 
-/* One call: what it left, its answer and the number that it handed back. */
+/* One call: what it left, its answer and the numbers that it handed back. */
 static void trace_call(const struct controller *k, const struct slice *list, const struct call *c)
 {
     struct trace *t = &traces[k->place];
-    uint8_t bytes[8];
-    uint64_t out = 1, answer = k->call(&library, list, c, &out);
+    uint8_t bytes[8 * NUMBERS];
+    uint64_t numbers[NUMBERS] = {1, 1}, *const out[NUMBERS] = {&numbers[0], &numbers[1]};
+    uint64_t answer = k->call(&library, list, c, out);
     for (int i = 0; i < k->slices; i++)
         add(t, list[i].at, list[i].length);
-    put_word(bytes, 0, 8, out);
+    for (uint64_t i = 0; i < NUMBERS; i++)
+        put_word(bytes, i, 8, numbers[i]);
     add(t, bytes, sizeof bytes);
     failed |= answer >= ANSWERS;
     t->answers[c->kind][answer % ANSWERS]++;

@@ -30,7 +30,7 @@
  *     static uint8_t bytes[CBQRI_BW_LEN(4, 2, 4)];
  *     struct cbqri_bw bw = cbqri_bw_view(bytes, setup.nr, setup.na, setup.nm);
  *
- *     uint64_t ctl, granted;
+ *     uint64_t ctl, reserved, pool;
  *     cbqri_bw_reset(&bw, &setup);
  *     // RCID 0, AT 0 down from 80 blocks to 30
  *     cbqri_bw_write(&bw, 8, CBQRI_BW_ALLOC, cbqri_holder(30, 1));
@@ -38,8 +38,8 @@
  *     cbqri_bw_read(&bw, 8, CBQRI_ALLOC_CTL, &ctl);
  *     // ctl is 0x0000000100000001, so cbqri_status(ctl) is CBQRI_STATUS_OK
  *     cbqri_bw_end_window(&bw);
- *     // 30 blocks of 64 bytes reserved: all 1,000 bytes are granted
- *     cbqri_bw_request(&bw, 0, 0, 0, 0, 1000, &granted);
+ *     // 30 blocks of 64 bytes are reserved: reserved is 1920, pool is 80
+ *     cbqri_bw_request(&bw, 0, 0, 0, 0, 2000, &reserved, &pool);
  *
  * Rules for the buffers:
  *
@@ -48,7 +48,7 @@
  *   a table may be an array of numbers: uint32_t active[NR * NA] is handed over
  *   as (uint8_t *)active, sizeof active, and its elements are the words that
  *   TABLES lists (likewise uint64_t and uint16_t for words of 8 and 2 bytes).
- * - Record, tables and the number that a call hands back must not overlap one
+ * - Record, tables and the numbers that a call hands back must not overlap one
  *   another, and no pointer may be NULL.
  * - Calls on buffers that have no byte in common may run at the same time.
  *   Reads (cbqri_bandwidth_read, cbqri_capacity_read) of the same buffers may
@@ -61,9 +61,9 @@
  *   same bytes otherwise. CHANGELOG.md says so.
  *
  * Every function returns 0, or the number of a refusal (below). A refused call
- * has changed no byte of record and tables; the number that it hands back
- * through a pointer (*value, *granted, *allowed) it sets to 0, so that no number
- * of an earlier call stays there.
+ * has changed no byte of record and tables; what it hands back through pointers
+ * (*value, *reserved and *pool, *allowed) it sets to 0, so that no number of an
+ * earlier call stays there.
  *
  * Refusals are about the caller: what a driver asks of a register shows in
  * STATUS, and the call that carried its write returns 0. Three of them a driver
@@ -183,11 +183,11 @@
 #include <stdint.h>
 
 /* The version of this header and of the library beside it (CHANGELOG.md).
- * CBQRI_VERSION is one number, to be compared: 4000 for 0.4.0. */
+ * CBQRI_VERSION is one number, to be compared: 5000 for 0.5.0. */
 #define CBQRI_VERSION_MAJOR 0
-#define CBQRI_VERSION_MINOR 4
+#define CBQRI_VERSION_MINOR 5
 #define CBQRI_VERSION_PATCH 0
-#define CBQRI_VERSION_STRING "0.4.0"
+#define CBQRI_VERSION_STRING "0.5.0"
 #define CBQRI_VERSION                                                                     \
     (CBQRI_VERSION_MAJOR * 1000000 + CBQRI_VERSION_MINOR * 1000 + CBQRI_VERSION_PATCH)
 
@@ -367,16 +367,22 @@ uint64_t cbqri_bandwidth_write(uint8_t *record, size_t record_len,
                                uint64_t size, uint64_t offset, uint64_t value);
 
 /* A request to read (kind 0) or write (any other kind) so many bytes. An AT at
- * or above NA counts as 0. The granted bytes, perhaps fewer than asked and
- * perhaps 0, go to *granted. By the settings in force:
- * - a pair never set is granted 0;
- * - the pair's holder (itself, or the pair it shares) gives what is left of
- *   its Rbwb * Q bytes in this window;
- * - if the holder's Mweight is not 0, the rest comes from the pool, as far as
- *   it has bytes left: (NBWBLKS - all Rbwb in force) * Q in each window.
- * The granted bytes are added to the counter of the MCID if its event and AT
- * match; it wraps at 2^W, and OVF is then set until an event other than 0 is
- * configured, or a reset. Refusals: 1 to 3, 7. */
+ * or above NA counts as 0. What is granted, perhaps fewer bytes than asked and
+ * perhaps none, is told by where it came from, by the settings in force:
+ * - a pair never set is granted nothing: both amounts are 0;
+ * - *reserved: the pair's holder (itself, or the pair it shares) gives what is
+ *   left of its Rbwb * Q bytes in this window;
+ * - *pool: if the holder's Mweight is not 0, the rest comes from the pool, as
+ *   far as it has bytes left: (NBWBLKS - all Rbwb in force) * Q in each window.
+ * The sum of both is added to the counter of the MCID if its event and AT match;
+ * it wraps at 2^W, and OVF is then set until an event other than 0 is
+ * configured, or a reset. Refusals: 1 to 3, 7.
+ *
+ * What to plan by: the reserved bytes are those that a job has by its
+ * reservation. While the setting is in force every window has them, whatever
+ * others ask. The pool bytes are luck: spare bandwidth, which may be gone in the
+ * next window. A job whose pool bytes are regularly above 0 needs a larger
+ * reservation to be sure of them, by as many blocks of Q bytes as hold them. */
 uint64_t cbqri_bandwidth_request(uint8_t *record, size_t record_len,
                                  uint8_t *active, size_t active_len,
                                  uint8_t *configured, size_t configured_len,
@@ -384,7 +390,7 @@ uint64_t cbqri_bandwidth_request(uint8_t *record, size_t record_len,
                                  uint8_t *counters, size_t counters_len,
                                  uint8_t *events, size_t events_len,
                                  uint64_t rcid, uint64_t mcid, uint64_t at, uint64_t kind,
-                                 uint32_t bytes, uint64_t *granted);
+                                 uint32_t bytes, uint64_t *reserved, uint64_t *pool);
 
 /* A device's request: as cbqri_bandwidth_request, with the RCID and MCID of the
  * word that belongs to the mode (DEVICES). Where one is out of range the refusal
@@ -397,7 +403,8 @@ uint64_t cbqri_bandwidth_device_request(uint8_t *record, size_t record_len,
                                         uint8_t *counters, size_t counters_len,
                                         uint8_t *events, size_t events_len,
                                         uint64_t mode, uint64_t word, uint64_t at,
-                                        uint64_t kind, uint32_t bytes, uint64_t *granted);
+                                        uint64_t kind, uint32_t bytes, uint64_t *reserved,
+                                        uint64_t *pool);
 
 /* Ends the window: configured settings come into force, and reservations and
  * pool are whole again. Refusals: 1 to 3. */
@@ -469,17 +476,19 @@ static inline uint64_t cbqri_bw_write(const struct cbqri_bw *c, uint64_t size, u
 
 static inline uint64_t cbqri_bw_request(const struct cbqri_bw *c, uint64_t rcid, uint64_t mcid,
                                         uint64_t at, uint64_t kind, uint32_t bytes,
-                                        uint64_t *granted)
+                                        uint64_t *reserved, uint64_t *pool)
 {
-    return cbqri_bandwidth_request(CBQRI_BW_BUFFERS(c), rcid, mcid, at, kind, bytes, granted);
+    return cbqri_bandwidth_request(CBQRI_BW_BUFFERS(c), rcid, mcid, at, kind, bytes, reserved,
+                                   pool);
 }
 
 static inline uint64_t cbqri_bw_device_request(const struct cbqri_bw *c, uint64_t mode,
                                                uint64_t word, uint64_t at, uint64_t kind,
-                                               uint32_t bytes, uint64_t *granted)
+                                               uint32_t bytes, uint64_t *reserved,
+                                               uint64_t *pool)
 {
     return cbqri_bandwidth_device_request(CBQRI_BW_BUFFERS(c), mode, word, at, kind, bytes,
-                                          granted);
+                                          reserved, pool);
 }
 
 static inline uint64_t cbqri_bw_end_window(const struct cbqri_bw *c)

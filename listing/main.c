@@ -88,8 +88,9 @@ static const char help[] =
     "  r SIZE OFFSET                    reads one\n"
     "  q RCID MCID AT KIND BYTES        requests bytes; KIND 0 reads, 1 writes\n"
     "  e                                ends the window\n"
-    "An answer is ok, 16 hexadecimal digits (r), the bytes granted (q), no N for\n"
-    "refusal N, or bad for a line of another form or before an accepted s.\n"
+    "An answer is ok, 16 hexadecimal digits (r), the bytes of the reservation and\n"
+    "those of the pool (q), no N for refusal N, or bad for a line of another form or\n"
+    "before an accepted s.\n"
     "  --help       this text\n"
     "  --version    the version\n"
     "Exit status: 0, 1 if reading or writing failed, 2 if the arguments are refused.\n";

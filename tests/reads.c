@@ -58,16 +58,16 @@ static void set_up(void)
 {
     const struct cbqri_bw_setup bw_setup = {1000, 900, NR, NA, NM, 64, 24};
     const struct cbqri_cc_setup cc_setup = {40, NR, NA, NM, 24};
-    uint64_t granted, refused;
+    uint64_t reserved, pool, refused;
     bw = cbqri_bw_view(pages(CBQRI_BW_LEN(NR, NA, NM)), NR, NA, NM);
     cc = cbqri_cc_view(pages(CBQRI_CC_LEN(NR, NA, NM)), NR, NA, NM);
     refused = cbqri_bw_reset(&bw, &bw_setup) | cbqri_cc_reset(&cc, &cc_setup);
     refused |= cbqri_bw_write(&bw, 8, CBQRI_MON_CTL, cbqri_mon_ctl(CBQRI_CONFIG_EVENT, 0, 3, 1, 0));
-    refused |= cbqri_bw_request(&bw, 0, 3, 0, 0, 1234, &granted);
+    refused |= cbqri_bw_request(&bw, 0, 3, 0, 0, 1234, &reserved, &pool);
     refused |= cbqri_bw_write(&bw, 8, CBQRI_MON_CTL, cbqri_mon_ctl(CBQRI_READ_COUNTER, 0, 3, 0, 0));
     refused |= cbqri_bw_write(&bw, 8, CBQRI_ALLOC_CTL, cbqri_alloc_ctl(CBQRI_READ_LIMIT, 0, 0));
     refused |= cbqri_cc_write(&cc, 8, CBQRI_ALLOC_CTL, cbqri_alloc_ctl(CBQRI_READ_LIMIT, 1, 0));
-    must(refused == 0 && granted == 1234, "the set-up");
+    must(refused == 0 && reserved == 1234 && pool == 0, "the set-up");
     must(mprotect(bw.record, CBQRI_BW_LEN(NR, NA, NM), PROT_READ) == 0 &&
              mprotect(cc.record, CBQRI_CC_LEN(NR, NA, NM), PROT_READ) == 0, "mprotect");
 }

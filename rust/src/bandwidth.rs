@@ -38,6 +38,47 @@ impl Kind {
     }
 }
 
+/// What a request is granted, by where the bytes came from. A job has the
+/// reserved bytes in every window in which its setting is in force, whatever
+/// others ask. The pool bytes are luck: spare bandwidth, which may be gone in the
+/// next window. A job whose pool bytes are regularly above 0 needs a larger
+/// reservation to be sure of them.
+///
+/// ```
+/// use cbqri::{Bandwidth, BandwidthSetup, Grant, Kind};
+///
+/// // 80 blocks of 64 bytes are reserved for RCID 0, and 20 are the pool.
+/// let setup = BandwidthSetup { nbwblks: 100, mrbwb: 80, nr: 4, na: 2, nm: 4, q: 64, w: 24 };
+/// let mut bw = Bandwidth::new(setup).unwrap();
+/// let grant = bw.request(0, 0, 0, Kind::Read, 6000).unwrap();
+/// assert_eq!(grant, Grant { reserved: 5120, pool: 880 });
+/// assert_eq!(grant.sum(), 6000);
+/// // To be sure of these bytes RCID 0 would need 14 blocks more.
+/// assert_eq!((grant.pool + setup.q - 1) / setup.q, 14);
+/// ```
+#[derive(Clone, Copy, Debug, Default, PartialEq, Eq, Hash)]
+pub struct Grant {
+    /// Bytes of the holder's reservation.
+    pub reserved: u64,
+    /// Bytes of the pool.
+    pub pool: u64,
+}
+
+impl Grant {
+    /// What a call hands back through its last two pointers.
+    fn of(call: impl FnOnce(&mut u64, &mut u64) -> Result<(), Refusal>) -> Result<Grant, Refusal> {
+        let mut grant = Grant::default();
+        call(&mut grant.reserved, &mut grant.pool)?;
+        Ok(grant)
+    }
+
+    /// All bytes that are granted, as a counter counts them.
+    #[must_use]
+    pub const fn sum(self) -> u64 {
+        self.reserved + self.pool
+    }
+}
+
 buffers! {
     /// Record and tables of a bandwidth controller as little-endian bytes, in the
     /// layout of `cbqri.h`. `Debug` shows their lengths; see [`Bandwidth`] for what
@@ -228,22 +269,23 @@ impl Bandwidth {
         self.used(rcid, at).filter(|used| *used > 0)
     }
 
-    /// A request for so many bytes; the result is how many are granted. An AT
-    /// at or above NA counts as 0.
+    /// A request for so many bytes; the result is how many are granted, of the
+    /// reservation and of the pool. An AT at or above NA counts as 0.
     ///
     /// # Errors
     ///
     /// [`Refusal::Identifier`].
     ///
     /// ```
-    /// use cbqri::{Bandwidth, BandwidthSetup, Kind, Refusal};
+    /// use cbqri::{Bandwidth, BandwidthSetup, Grant, Kind, Refusal};
     ///
     /// let setup = BandwidthSetup { nbwblks: 100, mrbwb: 80, nr: 4, na: 2, nm: 4, q: 64, w: 24 };
     /// let mut bw = Bandwidth::new(setup).unwrap();
     /// // 80 blocks of 64 bytes are reserved for RCID 0, and 20 are the pool.
-    /// assert_eq!(bw.request(0, 0, 1, Kind::Read, 6000), Ok(6000));
-    /// assert_eq!(bw.request(0, 0, 0, Kind::Read, 6000), Ok(400));
-    /// assert_eq!(bw.request(1, 0, 0, Kind::Read, 1), Ok(0));
+    /// let granted = |reserved, pool| Ok(Grant { reserved, pool });
+    /// assert_eq!(bw.request(0, 0, 1, Kind::Read, 6000), granted(5120, 880));
+    /// assert_eq!(bw.request(0, 0, 0, Kind::Read, 6000), granted(0, 400));
+    /// assert_eq!(bw.request(1, 0, 0, Kind::Read, 1), granted(0, 0));
     /// assert_eq!(bw.request(4, 0, 0, Kind::Read, 1), Err(Refusal::Identifier));
     /// ```
     pub fn request(
@@ -253,11 +295,11 @@ impl Bandwidth {
         at: u64,
         kind: Kind,
         bytes: u32,
-    ) -> Result<u64, Refusal> {
-        let mut granted = 0;
+    ) -> Result<Grant, Refusal> {
         let (buffers, kind) = (&mut self.buffers, kind.number());
-        ffi::cbqri_bandwidth_request(buffers, rcid, mcid, at, kind, bytes, &mut granted)?;
-        Ok(granted)
+        Grant::of(|reserved, pool| {
+            ffi::cbqri_bandwidth_request(buffers, rcid, mcid, at, kind, bytes, reserved, pool)
+        })
     }
 
     /// A device's request through the IOMMU: as [`Bandwidth::request`], with the
@@ -272,15 +314,16 @@ impl Bandwidth {
     /// DC.ta.
     ///
     /// ```
-    /// use cbqri::{registers as reg, Bandwidth, BandwidthSetup, Kind, Refusal};
+    /// use cbqri::{registers as reg, Bandwidth, BandwidthSetup, Grant, Kind, Refusal};
     ///
     /// let setup = BandwidthSetup { nbwblks: 100, mrbwb: 80, nr: 4, na: 2, nm: 4, q: 64, w: 24 };
     /// let mut bw = Bandwidth::new(setup).unwrap();
     /// let mut dma = |mode, word| bw.device_request(mode, word, 0, Kind::Write, 4000);
+    /// let granted = |reserved, pool| Ok(Grant { reserved, pool });
     /// // RCID 0 holds 80 blocks of 64 bytes, and may have the pool of 20.
-    /// assert_eq!(dma(reg::IOMMU_BARE, reg::iommu_qosid(0, 3)), Ok(4000));
-    /// assert_eq!(dma(reg::IOMMU_DIRECTORY, reg::dc_ta(0, 3)), Ok(2400));
-    /// assert_eq!(dma(reg::IOMMU_DIRECTORY, reg::dc_ta(1, 3)), Ok(0));
+    /// assert_eq!(dma(reg::IOMMU_BARE, reg::iommu_qosid(0, 3)), granted(4000, 0));
+    /// assert_eq!(dma(reg::IOMMU_DIRECTORY, reg::dc_ta(0, 3)), granted(1120, 1280));
+    /// assert_eq!(dma(reg::IOMMU_DIRECTORY, reg::dc_ta(1, 3)), granted(0, 0));
     /// assert_eq!(dma(reg::IOMMU_BARE, reg::iommu_qosid(4, 0)), Err(Refusal::Identifier));
     /// assert_eq!(dma(reg::IOMMU_DIRECTORY, reg::dc_ta(0, 4)), Err(Refusal::DeviceContext));
     /// ```
@@ -291,11 +334,13 @@ impl Bandwidth {
         at: u64,
         kind: Kind,
         bytes: u32,
-    ) -> Result<u64, Refusal> {
-        let mut granted = 0;
+    ) -> Result<Grant, Refusal> {
         let (buffers, kind) = (&mut self.buffers, kind.number());
-        ffi::cbqri_bandwidth_device_request(buffers, mode, word, at, kind, bytes, &mut granted)?;
-        Ok(granted)
+        Grant::of(|reserved, pool| {
+            ffi::cbqri_bandwidth_device_request(
+                buffers, mode, word, at, kind, bytes, reserved, pool,
+            )
+        })
     }
 
     /// Ends the window: configured settings come into force, and reservations
@@ -306,14 +351,14 @@ impl Bandwidth {
     /// None: a controller made by this crate is well formed.
     ///
     /// ```
-    /// use cbqri::{Bandwidth, BandwidthSetup, Kind};
+    /// use cbqri::{Bandwidth, BandwidthSetup, Grant, Kind};
     ///
-    /// let setup = BandwidthSetup { nbwblks: 10, mrbwb: 10, nr: 1, na: 1, nm: 1, q: 1, w: 24 };
+    /// let setup = BandwidthSetup { nbwblks: 10, mrbwb: 8, nr: 1, na: 1, nm: 1, q: 1, w: 24 };
     /// let mut bw = Bandwidth::new(setup).unwrap();
-    /// assert_eq!(bw.request(0, 0, 0, Kind::Read, 99), Ok(10));
-    /// assert_eq!(bw.request(0, 0, 0, Kind::Read, 99), Ok(0));
+    /// assert_eq!(bw.request(0, 0, 0, Kind::Read, 99), Ok(Grant { reserved: 8, pool: 2 }));
+    /// assert_eq!(bw.request(0, 0, 0, Kind::Read, 99), Ok(Grant { reserved: 0, pool: 0 }));
     /// bw.end_window().unwrap();
-    /// assert_eq!(bw.request(0, 0, 0, Kind::Read, 99), Ok(10));
+    /// assert_eq!(bw.request(0, 0, 0, Kind::Read, 99), Ok(Grant { reserved: 8, pool: 2 }));
     /// ```
     pub fn end_window(&mut self) -> Result<(), Refusal> {
         ffi::cbqri_bandwidth_end_window(&mut self.buffers)

@@ -20,7 +20,7 @@ macro_rules! function {
                 ) -> u64;
             }
             // SAFETY: pointers and lengths are those of vectors that live and do not overlap, and the
-            // number that is handed back goes to a variable of the caller's.
+            // numbers that are handed back go to variables of the caller's.
             Refusal::check(unsafe {
                 $name(
                     $($number,)*
@@ -52,9 +52,9 @@ bandwidth!(mut cbqri_bandwidth_reset(nbwblks, mrbwb, nr, na, nm, q, w;));
 bandwidth!(const cbqri_bandwidth_read(; size: u64, offset: u64, value: &mut u64));
 bandwidth!(mut cbqri_bandwidth_write(; size: u64, offset: u64, value: u64));
 bandwidth!(mut cbqri_bandwidth_request(; rcid: u64, mcid: u64, at: u64, kind: u64, bytes: u32,
-    granted: &mut u64));
+    reserved: &mut u64, pool: &mut u64));
 bandwidth!(mut cbqri_bandwidth_device_request(; mode: u64, word: u64, at: u64, kind: u64,
-    bytes: u32, granted: &mut u64));
+    bytes: u32, reserved: &mut u64, pool: &mut u64));
 bandwidth!(mut cbqri_bandwidth_end_window(;));
 
 capacity!(mut cbqri_capacity_reset(ncblks, nr, na, nm, w;));

@@ -18,7 +18,7 @@
 //! emulated IOMMU does.
 //!
 //! ```
-//! use cbqri::{registers as reg, Bandwidth, BandwidthSetup, Kind, Status};
+//! use cbqri::{registers as reg, Bandwidth, BandwidthSetup, Grant, Kind, Status};
 //!
 //! # fn main() -> Result<(), cbqri::Refusal> {
 //! let setup = BandwidthSetup { nbwblks: 100, mrbwb: 80, nr: 4, na: 2, nm: 4, q: 64, w: 24 };
@@ -43,11 +43,11 @@
 //! }
 //!
 //! // Settings come into force when the window ends.
-//! assert_eq!(bw.request(1, 0, 0, Kind::Read, 10)?, 0);
+//! assert_eq!(bw.request(1, 0, 0, Kind::Read, 10)?, Grant { reserved: 0, pool: 0 });
 //! bw.end_window()?;
 //! // 1,920 bytes from the reservation and 80 from the pool of 1,280.
-//! assert_eq!(bw.request(1, 0, 1, Kind::Read, 2000)?, 2000);
-//! assert_eq!(bw.request(1, 0, 0, Kind::Read, 2000)?, 1200);
+//! assert_eq!(bw.request(1, 0, 1, Kind::Read, 2000)?, Grant { reserved: 1920, pool: 80 });
+//! assert_eq!(bw.request(1, 0, 0, Kind::Read, 2000)?, Grant { reserved: 0, pool: 1200 });
 //! # Ok(())
 //! # }
 //! ```
@@ -59,7 +59,7 @@ mod ffi;
 mod parts;
 pub mod registers;
 
-pub use bandwidth::{Bandwidth, BandwidthBuffers, BandwidthSetup, Kind};
+pub use bandwidth::{Bandwidth, BandwidthBuffers, BandwidthSetup, Grant, Kind};
 pub use capacity::{Capacity, CapacityBuffers, CapacitySetup};
 pub use parts::{Counter, Setting};
 

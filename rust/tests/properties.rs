@@ -1,10 +1,11 @@
 //! Random calls on random set-ups, from a fixed seed: a refused call changes
-//! nothing, what the getters show is what a driver reads, a device's request is
-//! one with the identifiers of its word, a controller restored from its saved
-//! buffers is the same one, and the holders of an RCID have one weight.
+//! nothing, what the getters show is what a driver reads, a grant tells where its
+//! bytes came from, a device's request is one with the identifiers of its word, a
+//! controller restored from its saved buffers is the same one, and the holders of
+//! an RCID have one weight.
 
 use cbqri::registers as reg;
-use cbqri::{Bandwidth, BandwidthSetup, Capacity, CapacitySetup, Counter, Kind};
+use cbqri::{Bandwidth, BandwidthSetup, Capacity, CapacitySetup, Counter, Grant, Kind};
 use cbqri::{Refusal, Setting, Status};
 
 /// Random numbers with a fixed course (splitmix64).
@@ -89,6 +90,38 @@ fn bandwidth_reads(bw: &Bandwidth, random: &mut Random) {
     assert_eq!((bw.active(nr, 0), bw.configured(0, na), bw.counter(nm)), (None, None, None));
 }
 
+/// Bytes that the pool gave in this window.
+fn pool_gave(bw: &Bandwidth) -> u64 {
+    u64::from_le_bytes(bw.buffers().record[88..].try_into().unwrap())
+}
+
+/// A request's reserved bytes are what its holder has left of what is asked, and its pool bytes come
+/// from the pool, at weight 0 none. Gives the place of the grant's kind: 1 for reserved bytes and 2
+/// for pool bytes, added up.
+fn grants(bw: &Bandwidth, random: &mut Random) -> usize {
+    let BandwidthSetup { nr, na, nm, q, .. } = bw.setup();
+    let (rcid, mcid, at) = (random.below(nr), random.below(nm), random.below(na));
+    let bytes = random.below(5000);
+    let mut after = bw.clone();
+    let grant = after.request(rcid, mcid, at, Kind::Read, bytes as u32).unwrap();
+    let holder = match bw.active(rcid, at) {
+        Some(Setting::Sharer { shared_at }) => shared_at.into(),
+        _ => at,
+    };
+    let used = |bw: &Bandwidth| bw.used(rcid, holder).unwrap();
+    match bw.active(rcid, holder) {
+        Some(Setting::Holder { rbwb, mweight }) => {
+            assert_eq!(grant.reserved, bytes.min(u64::from(rbwb) * q - used(bw)));
+            assert!(mweight != 0 || grant.pool == 0);
+        }
+        _ => assert_eq!(grant, Grant::default()),
+    }
+    assert!(grant.sum() <= bytes);
+    assert_eq!(used(&after), used(bw) + grant.reserved);
+    assert_eq!(pool_gave(&after), pool_gave(bw) + grant.pool);
+    usize::from(grant.reserved > 0) + 2 * usize::from(grant.pool > 0)
+}
+
 /// A device's request grants and leaves what a request with the identifiers of its word does,
 /// whatever the other bits are.
 fn device_requests(bw: &Bandwidth, random: &mut Random) {
@@ -153,6 +186,7 @@ macro_rules! check_call {
 fn random_calls() {
     let mut random = Random(2023);
     let mut refused = 0;
+    let mut kinds = [0; 4];
     for _ in 0..150 {
         let (nr, na, nm) = (1 + random.below(6), 1 + random.below(4), 1 + random.below(6));
         let setup = BandwidthSetup { nbwblks: 100, mrbwb: 90, nr, na, nm, q: 64, w: 24 };
@@ -165,11 +199,13 @@ fn random_calls() {
             refused += u32::from(check_call!(bw, Bandwidth, bandwidth_call, &mut random));
             refused += u32::from(check_call!(cc, Capacity, capacity_call, &mut random));
             bandwidth_reads(&bw, &mut random);
+            kinds[grants(&bw, &mut random)] += 1;
             device_requests(&bw, &mut random);
             capacity_reads(&cc, &mut random);
         }
     }
     assert!((1000..15000).contains(&refused), "{refused} of 30,000 calls were refused");
+    assert!(kinds.iter().all(|count| *count >= 50), "{kinds:?} of each kind of grant");
 }
 
 /// In force and configured, all holders of an RCID have one weight.

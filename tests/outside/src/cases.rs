@@ -6,6 +6,7 @@ mod capacity;
 mod case;
 mod devices;
 mod forms;
+mod grants;
 mod paper;
 mod published;
 mod refusals;
@@ -51,6 +52,7 @@ fn all(side: Side) -> Report {
     paper::run(&mut report);
     published::run(&mut report);
     bandwidth::run(&mut report);
+    grants::run(&mut report);
     weights::run(&mut report);
     devices::run(&mut report);
     capacity::run(&mut report);

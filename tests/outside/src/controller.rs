@@ -36,9 +36,13 @@ pub trait Controller {
     ) -> Vec<Step<Self::Call>>;
 
     fn call_name(call: &Self::Call) -> &'static str;
-    /// What an accepted call showed, by the value that it handed back and the states around it.
-    fn accepted(before: &Self::State, call: &Self::Call, value: u64, after: &Self::State)
-        -> Labels;
+    /// What an accepted call showed, by its answer and the states around it.
+    fn accepted(
+        before: &Self::State,
+        call: &Self::Call,
+        answer: Answer,
+        after: &Self::State,
+    ) -> Labels;
     /// What a state showed, beside its fault, that was refused by 3.
     fn fault(state: &Self::State) -> Labels;
     /// What a call showed that was refused for its own arguments.
@@ -93,10 +97,10 @@ macro_rules! controller {
             fn accepted(
                 before: &$module::State,
                 call: &$module::Call,
-                value: u64,
+                answer: Answer,
                 after: &$module::State,
             ) -> Labels {
-                coverage::$module::accepted(before, call, value, after)
+                coverage::$module::accepted(before, call, answer, after)
             }
 
             fn fault(state: &$module::State) -> Labels {

@@ -64,7 +64,7 @@ pub fn labels<C: Controller>(
 ) -> Labels {
     let mut labels = vec![outcome(C::call_name(call), answer.refusal)];
     match answer.refusal {
-        0 => labels.extend(C::accepted(before, call, answer.value, after)),
+        0 => labels.extend(C::accepted(before, call, answer, after)),
         1 | 2 => {}
         3 => {
             labels.push(format!("refused 3 for {}", before.fault().unwrap_or("nothing")));

@@ -2,22 +2,23 @@
 //! Each slice is an address and a length: the record, then the tables in the order of rule I2.
 
 use crate::memory::Memory;
-use crate::model::{bandwidth, capacity, Answer};
+use crate::model::{bandwidth, capacity, Answer, Grant};
 
-/// What the caller's variable for the answer holds before a call: the call must overwrite it.
+/// What the caller's variables for the answer hold before a call: the call must overwrite them.
 const UNWRITTEN: u64 = 0xDEAD_BEEF_DEAD_BEEF;
 
 /// A function of the C interface on lent memory. In brackets are its slices; before them come the
 /// numbers of a set-up, after them the call's own arguments.
 macro_rules! c_function {
     ([$($slice:ident),*] $name:ident($($number:ident),*; $($own:ident: $type:ty),*)) => {
+        #[allow(clippy::too_many_arguments)] // as many as the C function has
         fn $name(memory: &mut Memory, $($number: u64,)* $($own: $type,)*) -> u64 {
             extern "C" {
                 fn $name($($number: u64,)* $($slice: *mut u8, _: usize,)* $($own: $type,)*) -> u64;
             }
             let [$($slice),*] = memory.slices();
             // SAFETY: the slices are disjoint, alive and as long as said; what the call hands back
-            // goes to a variable that lives until the end.
+            // goes to variables that live until the end.
             unsafe { $name($($number,)* $($slice.0, $slice.1,)* $($own,)*) }
         }
     };
@@ -39,9 +40,9 @@ bandwidth_function!(cbqri_bandwidth_reset(nbwblks, mrbwb, nr, na, nm, q, w;));
 bandwidth_function!(cbqri_bandwidth_read(; size: u64, offset: u64, value: &mut u64));
 bandwidth_function!(cbqri_bandwidth_write(; size: u64, offset: u64, value: u64));
 bandwidth_function!(cbqri_bandwidth_request(; rcid: u64, mcid: u64, at: u64, kind: u64, bytes: u32,
-    granted: &mut u64));
+    reserved: &mut u64, pool: &mut u64));
 bandwidth_function!(cbqri_bandwidth_device_request(; mode: u64, word: u64, at: u64, kind: u64,
-    bytes: u32, granted: &mut u64));
+    bytes: u32, reserved: &mut u64, pool: &mut u64));
 bandwidth_function!(cbqri_bandwidth_end_window(;));
 
 capacity_function!(cbqri_capacity_reset(ncblks, nr, na, nm, w;));
@@ -53,14 +54,21 @@ capacity_function!(cbqri_capacity_evict(; rcid: u64, mcid: u64, at: u64, block: 
 
 /// The answer of a call that hands nothing back but its refusal.
 fn plain(refusal: u64) -> Answer {
-    Answer { refusal, value: 0 }
+    Answer { refusal, ..Answer::default() }
 }
 
 /// The answer of a call that hands a number back too.
 fn with_value(call: impl FnOnce(&mut u64) -> u64) -> Answer {
     let mut value = UNWRITTEN;
     let refusal = call(&mut value);
-    Answer { refusal, value }
+    Answer { refusal, value, ..Answer::default() }
+}
+
+/// The answer of a call that hands back what it grants.
+fn with_grant(call: impl FnOnce(&mut u64, &mut u64) -> u64) -> Answer {
+    let (mut reserved, mut pool) = (UNWRITTEN, UNWRITTEN);
+    let refusal = call(&mut reserved, &mut pool);
+    Answer { refusal, grant: Grant { reserved, pool }, ..Answer::default() }
 }
 
 /// One call of the bandwidth controller.
@@ -74,11 +82,13 @@ pub fn bandwidth(memory: &mut Memory, call: &bandwidth::Call) -> Answer {
             with_value(|value| cbqri_bandwidth_read(memory, size, offset, value))
         }
         Write { size, offset, value } => plain(cbqri_bandwidth_write(memory, size, offset, value)),
-        Request(r) => with_value(|granted| {
-            cbqri_bandwidth_request(memory, r.rcid, r.mcid, r.at, r.kind, r.bytes, granted)
+        Request(r) => with_grant(|reserved, pool| {
+            let (at, kind, bytes) = (r.at, r.kind, r.bytes);
+            cbqri_bandwidth_request(memory, r.rcid, r.mcid, at, kind, bytes, reserved, pool)
         }),
-        DeviceRequest(d) => with_value(|granted| {
-            cbqri_bandwidth_device_request(memory, d.mode, d.word, d.at, d.kind, d.bytes, granted)
+        DeviceRequest(d) => with_grant(|reserved, pool| {
+            let (at, kind, bytes) = (d.at, d.kind, d.bytes);
+            cbqri_bandwidth_device_request(memory, d.mode, d.word, at, kind, bytes, reserved, pool)
         }),
         EndWindow => plain(cbqri_bandwidth_end_window(memory)),
     }

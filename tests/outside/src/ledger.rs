@@ -37,8 +37,8 @@ pub trait Ledger: Sized {
     /// A counter that an operation of mon_ctl set: with an event it starts again at 0.
     fn set_counter(&mut self, set: CounterSet);
 
-    /// Follows an accepted call that this controller alone has, and the value that it handed back.
-    fn own(&mut self, call: &Self::Call, value: u64) -> Result<(), String>;
+    /// Follows an accepted call that this controller alone has, and its answer.
+    fn own(&mut self, call: &Self::Call, answer: Answer) -> Result<(), String>;
 
     /// All claims, after any call of the list.
     fn check(&self, state: &Self::State) -> Result<(), String>;
@@ -48,13 +48,13 @@ pub trait Ledger: Sized {
         Labels::new()
     }
 
-    /// Follows an accepted call and the value that it handed back.
-    fn accepted(&mut self, call: &Self::Call, answered: u64) -> Result<(), String> {
+    /// Follows an accepted call and its answer.
+    fn accepted(&mut self, call: &Self::Call, answer: Answer) -> Result<(), String> {
         match call.common() {
             Common::Reset(setup) => *self = Self::after_reset(setup),
-            Common::Read { size, offset } => return self.claim_read(size, offset, answered),
+            Common::Read { size, offset } => return self.claim_read(size, offset, answer.value),
             Common::Write { size, offset, value } => self.write(size, offset, value),
-            Common::Own => return self.own(call, answered),
+            Common::Own => return self.own(call, answer),
         }
         Ok(())
     }
@@ -89,7 +89,7 @@ pub trait Ledger: Sized {
     /// Follows one call; a refused one changes nothing.
     fn observe(&mut self, call: &Self::Call, answer: Answer) -> Result<(), String> {
         match answer.refusal {
-            0 => self.accepted(call, answer.value),
+            0 => self.accepted(call, answer),
             _ => Ok(()),
         }
     }

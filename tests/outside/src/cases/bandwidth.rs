@@ -41,7 +41,7 @@ fn after_reset(report: &mut Report) {
     c.read_limit("RCID 0 AT 2", (0, 2), 0x8000_0000);
     c.read_limit("a pair never set reads 0 with STATUS 1", (3, 1), 0);
     // 80 blocks of 64 bytes and the pool of 20
-    c.request("all that RCID 0 can get", [0, 0, 2, 0, 0xFFFF_FFFF], 6_400);
+    c.request("all that RCID 0 can get", [0, 0, 2, 0, 0xFFFF_FFFF], (5_120, 1_280));
 }
 
 /// The sum counts every other configured holder, and not the setting that is replaced.
@@ -149,13 +149,13 @@ fn pool_and_reservations(report: &mut Report) {
     c.configure("RCID 1: 20, weight 0", (1, 0), 20, 1);
     c.end_window();
     // 1,920 and 1,280 bytes reserved, 50 blocks or 3,200 bytes in the pool
-    c.request("reservation and pool", [0, 0, 0, 0, 6_000], 5_120);
+    c.request("reservation and pool", [0, 0, 0, 0, 6_000], (1_920, 3_200));
     c.word("used of the reservation", USED, 0, 1_920);
     c.word("given by the pool", RECORD, POOL, 3_200);
-    c.request("nothing is left", [0, 0, 1, 0, 1], 0);
-    c.request("RCID 1 has all its own", [1, 0, 0, 0, 2_000], 1_280);
-    c.request("an unset pair", [1, 0, 1, 0, 10], 0);
-    c.request("0 bytes", [1, 0, 0, 0, 0], 0);
+    c.request("nothing is left", [0, 0, 1, 0, 1], (0, 0));
+    c.request("RCID 1 has all its own", [1, 0, 0, 0, 2_000], (1_280, 0));
+    c.request("an unset pair", [1, 0, 1, 0, 10], (0, 0));
+    c.request("0 bytes", [1, 0, 0, 0, 0], (0, 0));
     c.word("used by RCID 1", USED, 2, 1_280);
 }
 
@@ -163,34 +163,34 @@ fn pool_and_reservations(report: &mut Report) {
 fn weights(report: &mut Report) {
     let mut c = BandwidthCase::after_reset(report, TWO_TYPES);
     c.configure("RCID 0: 30, weight 0", (0, 0), 30, 1);
-    c.request("weight 1 is still in force", [0, 0, 0, 0, 5_200], 5_200);
+    c.request("weight 1 is still in force", [0, 0, 0, 0, 5_200], (5_120, 80));
     c.end_window();
-    c.request("weight 0 now, by its sharer too", [0, 0, 1, 0, 2_000], 1_920);
+    c.request("weight 0 now, by its sharer too", [0, 0, 1, 0, 2_000], (1_920, 0));
     c.word("the pool gave nothing", RECORD, POOL, 0);
     c.configure("weight 255", (0, 0), 0x0FF0_001E, 1);
-    c.request("not yet in force", [0, 0, 1, 0, 1], 0);
+    c.request("not yet in force", [0, 0, 1, 0, 1], (0, 0));
     c.end_window();
     // 1,920 reserved and 70 blocks, 4,480 bytes, in the pool
-    c.request("by the sharer, with the holder's weight", [0, 0, 1, 0, 2_000], 2_000);
+    c.request("by the sharer, with the holder's weight", [0, 0, 1, 0, 2_000], (1_920, 80));
     c.word("80 from the pool", RECORD, POOL, 80);
-    c.request("an AT that does not exist counts as 0", [0, 0, 2, 0, 5_000], 4_400);
+    c.request("an AT that does not exist counts as 0", [0, 0, 2, 0, 5_000], (0, 4_400));
     c.word("the pool gave all", RECORD, POOL, 4_480);
 }
 
 fn window_ends(report: &mut Report) {
     let mut c = BandwidthCase::after_reset(report, TWO_TYPES);
     c.configure("RCID 0 to 10", (0, 0), 0x0010_000A, 1);
-    c.request("the old setting is in force", [0, 0, 0, 0, 5_121], 5_121);
+    c.request("the old setting is in force", [0, 0, 0, 0, 5_121], (5_120, 1));
     c.end_window();
     c.word("nothing used", USED, 0, 0);
     c.word("nothing given", RECORD, POOL, 0);
     c.word("the new setting is in force", ACTIVE, 0, 0x0010_000A);
     c.configure("RCID 0 to 20, in a later window", (0, 0), 0x0010_0014, 1);
-    c.request("640 reserved, 5,760 in the pool", [0, 0, 0, 0, 7_000], 6_400);
+    c.request("640 reserved, 5,760 in the pool", [0, 0, 0, 0, 7_000], (640, 5_760));
     c.word("640 used", USED, 0, 640);
     c.end_window();
     c.word("the later setting is in force too", ACTIVE, 0, 0x0010_0014);
-    c.request("1,280 reserved", [0, 0, 0, 0, 1_280], 1_280);
+    c.request("1,280 reserved", [0, 0, 0, 0, 1_280], (1_280, 0));
     c.word("nothing from the pool", RECORD, POOL, 0);
 }
 
@@ -198,24 +198,24 @@ fn counter_wraps(report: &mut Report) {
     // 65,535 blocks of 65,536 bytes: 4,294,901,760, which is 255 times 2^24 and 16,711,680
     let mut c = BandwidthCase::after_reset(report, [65_535, 65_535, 1, 1, 1, 65_536, 24]);
     c.mon("event 1", 0x10_0001, 1);
-    c.request("all of it", [0, 0, 0, 0, 0xFFFF_FFFF], 4_294_901_760);
+    c.request("all of it", [0, 0, 0, 0, 0xFFFF_FFFF], (4_294_901_760, 0));
     c.word("wrapped 255 times", COUNTERS, 0, 0x8000_0000_00FF_0000);
     c.end_window();
-    c.request("100 more", [0, 0, 0, 0, 100], 100);
+    c.request("100 more", [0, 0, 0, 0, 100], (100, 0));
     c.word("OVF stays", COUNTERS, 0, 0x8000_0000_00FF_0064);
     c.store(COUNTERS, 0, 0xFF_FFFF);
-    c.request("1 more", [0, 0, 0, 0, 1], 1);
+    c.request("1 more", [0, 0, 0, 0, 1], (1, 0));
     c.word("exactly 2^24 sets OVF", COUNTERS, 0, 0x8000_0000_0000_0000);
     c.store(COUNTERS, 0, 0xFF_FFFE);
-    c.request("1 more", [0, 0, 0, 0, 1], 1);
+    c.request("1 more", [0, 0, 0, 0, 1], (1, 0));
     c.word("2^24 - 1 does not", COUNTERS, 0, 0xFF_FFFF);
-    c.request("0 more", [0, 0, 0, 0, 0], 0);
+    c.request("0 more", [0, 0, 0, 0, 0], (0, 0));
     c.word("nor does a grant of 0", COUNTERS, 0, 0xFF_FFFF);
 
     let mut c = BandwidthCase::after_reset(report, [65_535, 65_535, 1, 1, 1, 65_536, 62]);
     c.mon("event 1", 0x10_0001, 1);
     c.store(COUNTERS, 0, 0x3FFF_FFFF_FFFF_FFFF);
-    c.request("2 more", [0, 0, 0, 0, 2], 2);
+    c.request("2 more", [0, 0, 0, 0, 2], (2, 0));
     c.word("62 bits wrap", COUNTERS, 0, 0x8000_0000_0000_0001);
 }
 
@@ -224,13 +224,13 @@ fn counter_flags(report: &mut Report) {
     let mut c = BandwidthCase::after_reset(report, TWO_TYPES);
     c.mon("event 1", 0x10_0001, 1);
     c.store(COUNTERS, 0, 0x4000_0000_0000_0005);
-    c.request("3 bytes", [0, 0, 0, 0, 3], 3);
+    c.request("3 bytes", [0, 0, 0, 0, 3], (3, 0));
     c.word("INVALID stays", COUNTERS, 0, 0x4000_0000_0000_0008);
     c.store(COUNTERS, 0, 0xC000_0000_0000_0007);
     c.mon("event 0", 0x00_0001, 1);
     c.word("event 0 keeps value and flags", COUNTERS, 0, 0xC000_0000_0000_0007);
     c.word("and stores setting 0", EVENTS, 0, 0);
-    c.request("3 bytes", [0, 0, 0, 0, 3], 3);
+    c.request("3 bytes", [0, 0, 0, 0, 3], (3, 0));
     c.word("a stopped counter stays", COUNTERS, 0, 0xC000_0000_0000_0007);
     c.mon("READ_COUNTER of a stopped counter", 0x2, 1);
     c.read("mon_ctr_val", 8, 0x10, 0xC000_0000_0000_0007);
@@ -274,19 +274,19 @@ fn counter_filters(report: &mut Report) {
     c.mon("MCID 1: event 1, AT 0", 0x1010_0101, 1);
     c.mon("MCID 2: reads", 0x20_0201, 1);
     c.mon("MCID 3: writes", 0x30_0301, 1);
-    c.request("AT 1 shares AT 0", [0, 0, 1, 0, 10], 10);
-    c.request("AT 0", [0, 0, 0, 0, 100], 100);
-    c.request("AT 2 counts as 0", [0, 0, 2, 0, 1_000], 1_000);
+    c.request("AT 1 shares AT 0", [0, 0, 1, 0, 10], (10, 0));
+    c.request("AT 0", [0, 0, 0, 0, 100], (100, 0));
+    c.request("AT 2 counts as 0", [0, 0, 2, 0, 1_000], (1_000, 0));
     c.word("only AT 1", COUNTERS, 0, 10);
-    c.request("AT 1", [0, 1, 1, 0, 20], 20);
-    c.request("AT 2^64 - 1 counts as 0", [0, 1, u64::MAX, 0, 200], 200);
+    c.request("AT 1", [0, 1, 1, 0, 20], (20, 0));
+    c.request("AT 2^64 - 1 counts as 0", [0, 1, u64::MAX, 0, 200], (200, 0));
     c.word("only AT 0", COUNTERS, 1, 200);
-    c.request("a read", [0, 2, 0, 0, 30], 30);
-    c.request("a write", [0, 2, 0, 1, 40], 40);
+    c.request("a read", [0, 2, 0, 0, 30], (30, 0));
+    c.request("a write", [0, 2, 0, 1, 40], (40, 0));
     c.word("only reads", COUNTERS, 2, 30);
-    c.request("a read", [0, 3, 1, 0, 50], 50);
-    c.request("any other kind is a write", [0, 3, 1, 1 << 63, 60], 60);
-    c.request("kind 2 too", [0, 3, 1, 2, 70], 70);
+    c.request("a read", [0, 3, 1, 0, 50], (50, 0));
+    c.request("any other kind is a write", [0, 3, 1, 1 << 63, 60], (60, 0));
+    c.request("kind 2 too", [0, 3, 1, 2, 70], (70, 0));
     c.word("only writes", COUNTERS, 3, 130);
 }
 
@@ -302,6 +302,6 @@ fn one_access_type(report: &mut Report) {
     c.mon("event 1, ATV 1, AT 1", 0x1010_0021, 1);
     c.read("mon_ctl", 8, 0x08, 0x1_0010_0001);
     c.word("stored without AT and ATV", EVENTS, 0, 0x0001);
-    c.request("AT 5 counts as 0", [0, 0, 5, 0, 12], 12);
+    c.request("AT 5 counts as 0", [0, 0, 5, 0, 12], (12, 0));
     c.word("and is counted", COUNTERS, 0, 12);
 }

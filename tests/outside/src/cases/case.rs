@@ -66,19 +66,27 @@ impl<'a, C: Controller> Case<'a, C> {
         answer
     }
 
-    /// An accepted call, and the value that it hands back.
-    pub fn answers(&mut self, name: &str, call: &C::Call, value: u64) {
-        let answer = self.call(call);
-        self.report.expect(&format!("{name}, refusal"), answer.refusal, 0);
-        self.report.expect(name, answer.value, value);
+    /// A call, and all that it hands back.
+    fn expect(&mut self, name: &str, call: &C::Call, expected: Answer) {
+        let got = self.call(call);
+        let mut number = |what, got, expected| {
+            self.report.expect(&format!("{name}, {what}"), got, expected);
+        };
+        number("refusal", got.refusal, expected.refusal);
+        number("value", got.value, expected.value);
+        number("reserved bytes", got.grant.reserved, expected.grant.reserved);
+        number("pool bytes", got.grant.pool, expected.grant.pool);
     }
 
-    /// A refused call: its number, value 0, and no byte changed.
+    /// An accepted call, and the value that it hands back.
+    pub fn answers(&mut self, name: &str, call: &C::Call, value: u64) {
+        self.expect(name, call, Answer::value(value));
+    }
+
+    /// A refused call: its number, 0 in all that is handed back, and no byte changed.
     pub fn refuses(&mut self, name: &str, call: &C::Call, number: u64) {
         let before = self.memory.clone();
-        let answer = self.call(call);
-        self.report.expect(name, answer.refusal, number);
-        self.report.expect(&format!("{name}, value"), answer.value, 0);
+        self.expect(name, call, Answer::refused(number));
         self.report.expect(&format!("{name}, unchanged"), (self.memory == before) as u64, 1);
     }
 
@@ -189,17 +197,17 @@ impl<'a> Case<'a, Bandwidth> {
         Case::reset_to(report, bandwidth_setup(numbers))
     }
 
-    /// RCID, MCID, AT, kind and bytes, as in the paper's line `q`.
-    pub fn request(&mut self, name: &str, arguments: [u64; 5], granted: u64) {
+    /// RCID, MCID, AT, kind and bytes, as in the paper's line `q`; reserved bytes and pool bytes.
+    pub fn request(&mut self, name: &str, arguments: [u64; 5], grant: (u64, u64)) {
         let [rcid, mcid, at, kind, bytes] = arguments;
         let bytes = bytes as u32;
         let request = bandwidth::Request { rcid, mcid, at, kind, bytes };
-        self.answers(name, &bandwidth::Call::Request(request), granted);
+        self.expect(name, &bandwidth::Call::Request(request), Answer::granted(grant.0, grant.1));
     }
 
-    /// Mode, word, AT, kind and bytes of a device's request.
-    pub fn device_request(&mut self, name: &str, arguments: [u64; 5], granted: u64) {
-        self.answers(name, &device_request(arguments), granted);
+    /// Mode, word, AT, kind and bytes of a device's request; reserved bytes and pool bytes.
+    pub fn device_request(&mut self, name: &str, arguments: [u64; 5], grant: (u64, u64)) {
+        self.expect(name, &device_request(arguments), Answer::granted(grant.0, grant.1));
     }
 
     pub fn end_window(&mut self) {

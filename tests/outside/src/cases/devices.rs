@@ -41,7 +41,7 @@ fn all_identifiers(report: &mut Report) -> BandwidthCase<'_> {
 /// Expects a device's request to be one of this RCID and MCID.
 fn names(c: &mut BandwidthCase, name: &str, mode: u64, word: u64, (rcid, mcid): (u64, u64)) {
     c.aside(|c| {
-        c.device_request(name, [mode, word, 0, 0, 1_000], rcid + 1);
+        c.device_request(name, [mode, word, 0, 0, 1_000], (rcid + 1, 0));
         c.word(&format!("{name}, RCID"), USED, rcid as usize, rcid + 1);
         c.word(&format!("{name}, MCID"), COUNTERS, mcid as usize, rcid + 1);
     });
@@ -209,13 +209,13 @@ fn p9_by_a_device(report: &mut Report) {
     let words = [(OFF, 0x0002_0001), (BARE, 0x0002_0001), (2, 0x0020_0100_0000_0000)];
     for (mode, word) in words {
         c.aside(|c| {
-            c.device_request("RCID 1 MCID 2 AT 1", [mode, word, 1, 0, 2_000], 2_000);
+            c.device_request("RCID 1 MCID 2 AT 1", [mode, word, 1, 0, 2_000], (1_920, 80));
             c.word("from the reservation of AT 0", USED, 2, 1_920);
             c.word("from the pool", RECORD, POOL, 80);
             c.word("counted", COUNTERS, 2, 2_000);
-            c.device_request("the rest of the pool", [mode, word, 1, 0, 1_300], 1_200);
-            c.device_request("nothing is left", [mode, word, 0, 0, 1], 0);
-            c.request("nor for others of RCID 1", [1, 0, 0, 0, 1], 0);
+            c.device_request("the rest of the pool", [mode, word, 1, 0, 1_300], (0, 1_200));
+            c.device_request("nothing is left", [mode, word, 0, 0, 1], (0, 0));
+            c.request("nor for others of RCID 1", [1, 0, 0, 0, 1], (0, 0));
             c.word("all that was granted", COUNTERS, 2, 3_200);
         });
     }
@@ -225,18 +225,18 @@ fn p9_by_a_device(report: &mut Report) {
 fn grants(report: &mut Report) {
     let mut c = good_state(report);
     let all = 0xFFFF_FFFF;
-    c.device_request("weight 0, by its sharer", [BARE, 0, 1, 0, 2_000], 1_920);
-    c.device_request("an unset RCID", [OFF, 3, 0, 0, 10], 0);
-    c.device_request("an unset AT", [2, 0x0000_0200_0000_0000, 1, 0, 10], 0);
-    c.device_request("AT 2 of 2 counts as 0", [2, 0x0000_0200_0000_0000, 2, 0, 1_000], 1_000);
-    c.request("a request finds what a device left", [2, 0, 0, 0, 200], 200);
-    c.device_request("so does 2^32 + 1, what is left", [BARE, 2, (1 << 32) + 1, 0, 200], 80);
+    c.device_request("weight 0, by its sharer", [BARE, 0, 1, 0, 2_000], (1_920, 0));
+    c.device_request("an unset RCID", [OFF, 3, 0, 0, 10], (0, 0));
+    c.device_request("an unset AT", [2, 0x0000_0200_0000_0000, 1, 0, 10], (0, 0));
+    c.device_request("AT 2 of 2 counts as 0", [2, 0x0000_0200_0000_0000, 2, 0, 1_000], (1_000, 0));
+    c.request("a request finds what a device left", [2, 0, 0, 0, 200], (200, 0));
+    c.device_request("so does 2^32 + 1, what is left", [BARE, 2, (1 << 32) + 1, 0, 200], (80, 0));
     c.word("used by RCID 2", USED, 4, 1_280);
-    c.device_request("0 bytes", [3, 0x0000_0100_0000_0000, 0, 0, 0], 0);
-    c.device_request("reservation and pool", [3, 0x0000_0100_0000_0000, 0, 0, all], 3_200);
+    c.device_request("0 bytes", [3, 0x0000_0100_0000_0000, 0, 0, 0], (0, 0));
+    c.device_request("reservation and pool", [3, 0x0000_0100_0000_0000, 0, 0, all], (1_920, 1_280));
     c.word("the pool gave all", RECORD, POOL, 1_280);
     c.end_window();
-    c.device_request("whole again", [OFF, 1, 1, 0, all], 3_200);
+    c.device_request("whole again", [OFF, 1, 1, 0, all], (1_920, 1_280));
 }
 
 /// A counter goes by a device's own AT, and by read or write, as for any request.
@@ -246,19 +246,19 @@ fn counters(report: &mut Report) {
     c.mon("MCID 1: event 1, AT 0", 0x1010_0101, 1);
     c.mon("MCID 2: reads", 0x20_0201, 1);
     c.mon("MCID 3: writes", 0x30_0301, 1);
-    c.device_request("AT 1 shares AT 0", [OFF, 0, 1, 0, 10], 10);
-    c.device_request("AT 0", [BARE, 0, 0, 0, 100], 100);
+    c.device_request("AT 1 shares AT 0", [OFF, 0, 1, 0, 10], (10, 0));
+    c.device_request("AT 0", [BARE, 0, 0, 0, 100], (100, 0));
     c.word("only AT 1", COUNTERS, 0, 10);
-    c.device_request("AT 1", [BARE, 0x0001_0000, 1, 0, 20], 20);
-    c.device_request("AT 2 counts as 0", [BARE, 0x0001_0000, 2, 0, 200], 200);
+    c.device_request("AT 1", [BARE, 0x0001_0000, 1, 0, 20], (20, 0));
+    c.device_request("AT 2 counts as 0", [BARE, 0x0001_0000, 2, 0, 200], (200, 0));
     c.word("only AT 0", COUNTERS, 1, 200);
-    c.device_request("a read", [2, 0x0020_0000_0000_0000, 0, 0, 30], 30);
-    c.device_request("a write", [2, 0x0020_0000_0000_0000, 0, 1, 40], 40);
+    c.device_request("a read", [2, 0x0020_0000_0000_0000, 0, 0, 30], (30, 0));
+    c.device_request("a write", [2, 0x0020_0000_0000_0000, 0, 1, 40], (40, 0));
     c.word("only reads", COUNTERS, 2, 30);
-    c.device_request("a read", [OFF, 0x0003_0000, 0, 0, 50], 50);
-    c.device_request("any other kind is a write", [OFF, 0x0003_0000, 0, 1 << 63, 60], 60);
+    c.device_request("a read", [OFF, 0x0003_0000, 0, 0, 50], (50, 0));
+    c.device_request("any other kind is a write", [OFF, 0x0003_0000, 0, 1 << 63, 60], (60, 0));
     c.word("only writes", COUNTERS, 3, 60);
     c.store(COUNTERS, 3, 16_777_000);
-    c.device_request("300 bytes written", [2, 0x0030_0000_0000_0000, 0, 2, 300], 300);
+    c.device_request("300 bytes written", [2, 0x0030_0000_0000_0000, 0, 2, 300], (300, 0));
     c.word("84 with OVF", COUNTERS, 3, 0x8000_0000_0000_0054);
 }

@@ -36,10 +36,10 @@ fn p1_to_p10(report: &mut Report) {
 }
 
 fn p8_to_p10(c: &mut BandwidthCase) {
-    c.request("P8 before the window end", [1, 0, 0, 0, 10], 0);
+    c.request("P8 before the window end", [1, 0, 0, 0, 10], (0, 0));
 
     c.end_window();
-    c.request("P9 RCID 1 AT 1", [1, 0, 1, 0, 2_000], 2_000);
+    c.request("P9 RCID 1 AT 1", [1, 0, 1, 0, 2_000], (1_920, 80));
     c.word("P9 from the reservation of AT 0", USED, 2, 1_920);
     c.word("P9 from the pool", RECORD, POOL, 80);
 
@@ -49,9 +49,9 @@ fn p8_to_p10(c: &mut BandwidthCase) {
     c.read("P10 mon_ctl", 8, 0x08, 0x0000_0004_0040_0201);
 
     // not in the paper: the pool of 1,280 has 1,200 left, and then nothing
-    c.request("after P9, the rest of the pool", [1, 0, 1, 0, 1_300], 1_200);
-    c.request("after P9, nothing is left", [1, 0, 0, 0, 1], 0);
-    c.request("after P9, another's reservation is whole", [2, 0, 0, 0, 1_280], 1_280);
+    c.request("after P9, the rest of the pool", [1, 0, 1, 0, 1_300], (0, 1_200));
+    c.request("after P9, nothing is left", [1, 0, 0, 0, 1], (0, 0));
+    c.request("after P9, another's reservation is whole", [2, 0, 0, 0, 1_280], (1_280, 0));
 }
 
 /// The counter is written into the lent table.
@@ -59,7 +59,7 @@ fn p11(report: &mut Report) {
     let mut c = BandwidthCase::after_reset(report, SETUP);
     c.mon("P11 event 1 of MCID 3", 0x10_0301, 1);
     c.store(COUNTERS, 3, 16_777_000);
-    c.request("P11 grant", [0, 3, 0, 0, 300], 300);
+    c.request("P11 grant", [0, 3, 0, 0, 300], (300, 0));
     c.word("P11 counter", COUNTERS, 3, 0x8000_0000_0000_0054);
     c.mon("P11 READ_COUNTER", 0x302, 1);
     c.read("P11 mon_ctr_val", 8, 0x10, 0x8000_0000_0000_0054);
@@ -77,6 +77,6 @@ fn p12(report: &mut Report) {
 fn listing(report: &mut Report) {
     let mut c = BandwidthCase::after_reset(report, SETUP);
     c.operates("listing, r 8 18", 0x1e, 1, 0x0000_0001_0000_0001);
-    c.request("listing, q 1 0 0 0 10", [1, 0, 0, 0, 10], 0);
+    c.request("listing, q 1 0 0 0 10", [1, 0, 0, 0, 10], (0, 0));
     c.end_window();
 }

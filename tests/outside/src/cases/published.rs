@@ -41,14 +41,14 @@ fn three_access_types(report: &mut Report) {
 
 fn three_access_types_in_use(report: &mut Report) {
     let mut c = example(report);
-    c.request("before the window end", [3, 0, 2, 0, 64], 0);
+    c.request("before the window end", [3, 0, 2, 0, 64], (0, 0));
     c.end_window();
     // AT 1 and AT 2 have 50 blocks together, 3,200 bytes; the pool has 9 blocks, 576 bytes
-    c.request("AT 2 from AT 1's blocks", [3, 0, 2, 0, 3_000], 3_000);
-    c.request("AT 1: 200 left and 300 of the pool", [3, 0, 1, 1, 500], 500);
-    c.request("AT 2: the other 276 of the pool", [3, 0, 2, 1, 500], 276);
-    c.request("AT 0: its own 6,400", [3, 0, 0, 0, 7_000], 6_400);
-    c.request("RCID 0: its one block, weight 0", [0, 0, 0, 0, 100], 64);
+    c.request("AT 2 from AT 1's blocks", [3, 0, 2, 0, 3_000], (3_000, 0));
+    c.request("AT 1: 200 left and 300 of the pool", [3, 0, 1, 1, 500], (200, 300));
+    c.request("AT 2: the other 276 of the pool", [3, 0, 2, 1, 500], (0, 276));
+    c.request("AT 0: its own 6,400", [3, 0, 0, 0, 7_000], (6_400, 0));
+    c.request("RCID 0: its one block, weight 0", [0, 0, 0, 0, 100], (64, 0));
 }
 
 // Section 3.4: NCBLKS 8, masks of RCIDs 3, 5 and 6 for two access types. The table's columns are

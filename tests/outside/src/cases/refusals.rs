@@ -166,6 +166,6 @@ fn requests(report: &mut Report) {
         let request = bandwidth::Request { rcid, mcid, at: 0, kind: 0, bytes: 10 };
         c.refuses("no such RCID or MCID", &bandwidth::Call::Request(request), 7);
     }
-    c.request("the last ones", [3, 3, 1, 0, 10], 0);
-    c.request("any AT and any kind", [0, 3, u64::MAX, u64::MAX, 10], 10);
+    c.request("the last ones", [3, 3, 1, 0, 10], (0, 0));
+    c.request("any AT and any kind", [0, 3, u64::MAX, u64::MAX, 10], (10, 0));
 }

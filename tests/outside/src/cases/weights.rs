@@ -136,18 +136,18 @@ fn in_force(report: &mut Report) {
     c.configure("AT 1 to weight 4", (1, 1), 0x0040_000A, 1);
     row(&mut c, "configured", CONFIGURED, 1, [0x0040_000A, 0x0040_000A, 0]);
     row(&mut c, "weight 0 is in force", ACTIVE, 1, [10, 10, 0]);
-    c.request("AT 0 by weight 0", [1, 0, 0, 0, 1_000], 640);
-    c.request("AT 1 by weight 0", [1, 0, 1, 0, 1_000], 640);
+    c.request("AT 0 by weight 0", [1, 0, 0, 0, 1_000], (640, 0));
+    c.request("AT 1 by weight 0", [1, 0, 1, 0, 1_000], (640, 0));
     c.end_window();
     row(&mut c, "in force", ACTIVE, 1, [0x0040_000A, 0x0040_000A, 0]);
-    c.request("AT 0 by the weight carried", [1, 0, 0, 0, 1_000], 1_000);
+    c.request("AT 0 by the weight carried", [1, 0, 0, 0, 1_000], (640, 360));
     c.word("360 from the pool", RECORD, POOL, 360);
-    c.request("AT 1 by its own", [1, 0, 1, 0, 1_000], 1_000);
+    c.request("AT 1 by its own", [1, 0, 1, 0, 1_000], (640, 360));
     c.configure("AT 0 to weight 0", (1, 0), 10, 1);
-    c.request("AT 1 by weight 4, still in force", [1, 0, 1, 0, 100], 100);
+    c.request("AT 1 by weight 4, still in force", [1, 0, 1, 0, 100], (0, 100));
     c.word("820 from the pool", RECORD, POOL, 820);
     c.end_window();
-    c.request("AT 1 by weight 0", [1, 0, 1, 0, 1_000], 640);
+    c.request("AT 1 by weight 0", [1, 0, 1, 0, 1_000], (640, 0));
     c.word("nothing from the pool", RECORD, POOL, 0);
 }
 

@@ -1,6 +1,7 @@
 //! What a run shows of the bandwidth controller.
 
 mod devices;
+mod grants;
 mod weights;
 
 pub use weights::fault;
@@ -8,10 +9,10 @@ pub use weights::fault;
 use super::{common_required, operation, unknown, Labels};
 use crate::ledger::bandwidth::required as read_back_required;
 use crate::model::access::ALLOC_CTL;
-use crate::model::bandwidth::settings::{is_sharer, weight, RBWB, SHARED_AT, USE_SHARED};
-use crate::model::bandwidth::{holder_of, Call, Request, Setup, State, OVF};
+use crate::model::bandwidth::settings::{is_sharer, RBWB, SHARED_AT, USE_SHARED};
+use crate::model::bandwidth::{Call, Request, Setup, State, OVF};
 use crate::model::registers::{AT, RCID, STATUS};
-use crate::model::{access_type, Sizes};
+use crate::model::{Answer, Sizes};
 
 pub fn call_name(call: &Call) -> &'static str {
     match call {
@@ -24,7 +25,7 @@ pub fn call_name(call: &Call) -> &'static str {
     }
 }
 
-pub fn accepted(before: &State, call: &Call, value: u64, after: &State) -> Labels {
+pub fn accepted(before: &State, call: &Call, answer: Answer, after: &State) -> Labels {
     let mut labels = Vec::new();
     match call {
         Call::Write { offset, .. } => {
@@ -38,11 +39,11 @@ pub fn accepted(before: &State, call: &Call, value: u64, after: &State) -> Label
             }
         }
         Call::Request(request) => {
-            labels.push(source(before, request, value, after));
-            labels.extend(counter_change(before, request, value, after));
+            labels.push(grants::source(before, request, answer.grant));
+            labels.extend(counter_change(before, request, answer.grant.sum(), after));
         }
         Call::DeviceRequest(device) => {
-            labels.extend(devices::accepted(before, device, value, after))
+            labels.extend(devices::accepted(before, device, answer.grant, after))
         }
         Call::EndWindow => {
             labels.extend(weights::window_end(before));
@@ -103,30 +104,6 @@ fn bad_operand(state: &State) -> &'static str {
     }
 }
 
-/// Where a grant came from, and whether it was all that was asked.
-fn source(before: &State, request: &Request, granted: u64, after: &State) -> String {
-    let setup = &before.record.setup;
-    let at = access_type(request.at, setup.na);
-    let place = match holder_of(setup, &before.active, request.rcid, at) {
-        Some(place) => place,
-        None => return "granted 0: no holder".into(),
-    };
-    let reservation = before.used != after.used;
-    let pool = before.record.pool_given != after.record.pool_given;
-    let hard = if weight(before.active[place]) == 0 { ", weight 0" } else { "" };
-    let part = match (granted, request.bytes as u64) {
-        (_, 0) => return "granted 0: asked 0".into(),
-        (0, _) => return format!("granted 0: nothing left{hard}"),
-        (granted, asked) if granted < asked => "in part",
-        _ => "in full",
-    };
-    match (reservation, pool) {
-        (true, false) => format!("granted {part} from the reservation{hard}"),
-        (false, true) => format!("granted {part} from the pool"),
-        _ => format!("granted {part} from both"),
-    }
-}
-
 fn counter_change(before: &State, request: &Request, granted: u64, after: &State) -> Labels {
     let mcid = request.mcid as usize;
     let (old, new) = (before.counters[mcid], after.counters[mcid]);
@@ -164,13 +141,14 @@ pub fn required() -> Labels {
         ("end_window", &[1, 2, 3]),
     ]);
     labels.extend(OTHERS.map(String::from));
+    labels.extend(grants::SOURCES.map(String::from));
     labels.extend(devices::required());
     labels.extend(weights::required());
     labels.extend(read_back_required());
     labels
 }
 
-const OTHERS: [&str; 37] = [
+const OTHERS: [&str; 25] = [
     "refused 3 for a register",
     "refused 3 for a configured setting",
     "refused 3 for a setting in force",
@@ -192,18 +170,6 @@ const OTHERS: [&str; 37] = [
     "holder became sharer",
     "sharer became holder",
     "sharer became sharer",
-    "granted 0: no holder",
-    "granted 0: asked 0",
-    "granted 0: nothing left",
-    "granted 0: nothing left, weight 0",
-    "granted in full from the reservation",
-    "granted in full from the reservation, weight 0",
-    "granted in part from the reservation",
-    "granted in part from the reservation, weight 0",
-    "granted in full from the pool",
-    "granted in part from the pool",
-    "granted in full from both",
-    "granted in part from both",
     "counter wrapped",
     "counter wrapped many times in one grant",
     "counter kept OVF",

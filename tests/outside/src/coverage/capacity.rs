@@ -2,6 +2,7 @@
 
 use super::{common_required, operation, unknown, Labels};
 use crate::model::capacity::{Call, Setup, State, INVALID};
+use crate::model::Answer;
 
 pub fn call_name(call: &Call) -> &'static str {
     match call {
@@ -13,7 +14,7 @@ pub fn call_name(call: &Call) -> &'static str {
     }
 }
 
-pub fn accepted(before: &State, call: &Call, value: u64, after: &State) -> Labels {
+pub fn accepted(before: &State, call: &Call, answer: Answer, after: &State) -> Labels {
     let mut labels = Vec::new();
     match call {
         Call::Write { offset, .. } => {
@@ -21,7 +22,7 @@ pub fn accepted(before: &State, call: &Call, value: u64, after: &State) -> Label
             labels.extend(state_change(before, after));
         }
         Call::Fill(event) => {
-            let allowed = if value == 1 { "allowed" } else { "not allowed" };
+            let allowed = if answer.value == 1 { "allowed" } else { "not allowed" };
             labels.push(format!("fill {allowed}"));
             labels.extend(counter_change("fill", before, event.mcid, after));
         }

@@ -2,6 +2,7 @@
 
 use super::Labels;
 use crate::model::listing::{form_of, Reply, BEFORE, BYTES, FORM, KIND, LONG, LONGEST, NUMBER};
+use crate::model::Grant;
 
 /// What one line shows; `set_up` says whether an s was accepted before it.
 pub fn line_labels(line: &[u8], reply: Reply, set_up: bool) -> Labels {
@@ -9,8 +10,7 @@ pub fn line_labels(line: &[u8], reply: Reply, set_up: bool) -> Labels {
     let mut labels = vec![match reply {
         Reply::Done => format!("{letter}: ok"),
         Reply::Value(_) => format!("{letter}: 16 digits"),
-        Reply::Granted(0) => format!("{letter}: 0 bytes"),
-        Reply::Granted(_) => format!("{letter}: bytes granted"),
+        Reply::Granted(grant) => format!("{letter}: {}", amounts(grant)),
         Reply::Refused(number) => format!("{letter}: no {number}"),
         Reply::Bad(why) => format!("bad: {why}"),
     }];
@@ -33,6 +33,16 @@ fn name(letter: u8) -> &'static str {
         b'q' => "q",
         b'e' => "e",
         _ => "",
+    }
+}
+
+/// Which of the two amounts are not 0.
+fn amounts(grant: Grant) -> &'static str {
+    match (grant.reserved, grant.pool) {
+        (0, 0) => "nothing",
+        (_, 0) => "reserved bytes alone",
+        (0, _) => "pool bytes alone",
+        _ => "reserved and pool bytes",
     }
 }
 
@@ -65,7 +75,7 @@ pub fn input_labels(text: &[u8]) -> Labels {
     labels
 }
 
-const REQUIRED: [&str; 24] = [
+const REQUIRED: [&str; 26] = [
     "s: ok",
     "s: no 1",
     "s accepted after an accepted one",
@@ -77,8 +87,10 @@ const REQUIRED: [&str; 24] = [
     "r: 16 digits",
     "r: no 4",
     "r: no 5",
-    "q: 0 bytes",
-    "q: bytes granted",
+    "q: nothing",
+    "q: reserved bytes alone",
+    "q: pool bytes alone",
+    "q: reserved and pool bytes",
     "q: no 7",
     "e: ok",
     "an empty line",

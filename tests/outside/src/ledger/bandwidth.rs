@@ -1,6 +1,7 @@
 //! The ledger of the bandwidth controller and the claims of demand 3.
 
 mod read_back;
+mod window;
 
 pub use read_back::required;
 
@@ -8,15 +9,16 @@ use super::{claim, CounterSet};
 use crate::coverage::Labels;
 use crate::model::access::{Part, ALLOC_CTL};
 use crate::model::bandwidth::settings::{
-    all_reserved, named_bits, one_weight_each, reserved, store, stored_form, weight,
+    all_reserved, named_bits, one_weight_each, store, stored_form,
 };
 use crate::model::bandwidth::{
-    alloc_status, counted, first_settings, holder_of, pool_size, Call, DeviceRequest, Request,
-    Setup, State, CTR, LAST_EVENT, OVF,
+    alloc_status, counted, first_settings, holder_of, Call, DeviceRequest, Request, Setup, State,
+    CTR, LAST_EVENT, OVF,
 };
 use crate::model::registers::{alloc_ctl_fields, AT, CONFIG_LIMIT, DONE, OP, RCID, READ_LIMIT};
-use crate::model::{access_type, Sizes};
+use crate::model::{access_type, Answer, Grant, Sizes};
 use read_back::ReadBack;
+use window::Window;
 
 pub struct Ledger {
     setup: Setup,
@@ -28,24 +30,11 @@ pub struct Ledger {
     tallies: Vec<Tally>,
 }
 
-/// Bytes of one window, by the holder's place in the tables.
-struct Window {
-    asked: Vec<u64>,
-    granted: Vec<u64>,
-    sum: u64,
-}
-
 /// One counter: its setting, and the bytes that it counted since its event was set.
 #[derive(Clone, Default)]
 struct Tally {
     setting: u16,
     total: Option<u128>,
-}
-
-impl Window {
-    fn open(setup: &Setup) -> Window {
-        Window { asked: vec![0; setup.pairs()], granted: vec![0; setup.pairs()], sum: 0 }
-    }
 }
 
 impl super::Ledger for Ledger {
@@ -104,10 +93,10 @@ impl super::Ledger for Ledger {
         }
     }
 
-    fn own(&mut self, call: &Call, answered: u64) -> Result<(), String> {
+    fn own(&mut self, call: &Call, answer: Answer) -> Result<(), String> {
         match call {
-            Call::Request(request) => return self.request(request, answered),
-            Call::DeviceRequest(device) => return self.request(&request_of(device), answered),
+            Call::Request(request) => return self.request(request, answer.grant),
+            Call::DeviceRequest(device) => return self.request(&request_of(device), answer.grant),
             Call::EndWindow => {
                 self.active = self.configured.clone();
                 self.window = Window::open(&self.setup);
@@ -120,7 +109,7 @@ impl super::Ledger for Ledger {
 
     fn check(&self, state: &State) -> Result<(), String> {
         self.check_settings(state)?;
-        self.check_window()?;
+        self.window.check(&self.setup, &self.active)?;
         self.check_counters(state)
     }
 
@@ -155,18 +144,15 @@ impl Ledger {
         self.read_back.shown(place, self.configured[place])
     }
 
-    fn request(&mut self, request: &Request, granted: u64) -> Result<(), String> {
+    fn request(&mut self, request: &Request, grant: Grant) -> Result<(), String> {
         let exists = request.rcid < self.setup.nr && request.mcid < self.setup.nm;
         claim(exists, || format!("accepted with an RCID or MCID that is not there: {request:?}"))?;
         let at = access_type(request.at, self.setup.na);
-        if let Some(place) = holder_of(&self.setup, &self.active, request.rcid, at) {
-            self.window.asked[place] += request.bytes as u64;
-            self.window.granted[place] += granted;
-        }
-        self.window.sum += granted;
+        let holder = holder_of(&self.setup, &self.active, request.rcid, at);
+        self.window.note(holder, request.bytes as u64, grant);
         let tally = &mut self.tallies[request.mcid as usize];
         if counted(tally.setting, at, request.kind) {
-            tally.total = tally.total.map(|total| total + granted as u128);
+            tally.total = tally.total.map(|total| total + grant.sum() as u128);
         }
         Ok(())
     }
@@ -181,25 +167,6 @@ impl Ledger {
             claim(one_weight_each(&self.setup, words), text)?;
         }
         self.read_back.check(&state.configured)
-    }
-
-    fn check_window(&self) -> Result<(), String> {
-        let setup = &self.setup;
-        let pool = pool_size(setup, &self.active);
-        for (place, &word) in self.active.iter().enumerate() {
-            let (asked, granted) = (self.window.asked[place], self.window.granted[place]);
-            let reservation = reserved(word) * setup.q;
-            let least = reservation.min(asked);
-            let text = || {
-                format!("place {place}: asked {asked}, granted {granted}, reserved {reservation}")
-            };
-            claim(granted >= least, text)?;
-            claim(granted <= asked, text)?;
-            claim(granted <= reservation + pool, text)?;
-            claim(weight(word) != 0 || granted == least, text)?;
-        }
-        let (sum, all) = (self.window.sum, setup.nbwblks * setup.q);
-        claim(sum <= all, || format!("{sum} bytes granted of {all} in a window"))
     }
 
     /// A counter is the sum of its matching grants modulo 2^W, with OVF once that reached 2^W.
@@ -222,7 +189,7 @@ impl Ledger {
 mod tests {
     use super::*;
     use crate::ledger::{make, Ledger as _};
-    use crate::model::{Answer, Checked, Performs};
+    use crate::model::{Checked, Performs};
 
     const SETUP: Setup = Setup { nbwblks: 100, mrbwb: 80, nr: 4, na: 2, nm: 4, q: 64, w: 24 };
 
@@ -250,38 +217,6 @@ mod tests {
             make(&mut state, &mut ledger, &call).unwrap();
         }
         (state, ledger)
-    }
-
-    /// What the claims say of a request that was granted these bytes, the state untouched.
-    fn claims_after(rcid: u64, asked: u32, granted: u64) -> Result<(), String> {
-        let (_, mut ledger) = in_use();
-        ledger.observe(&request(rcid, asked), Answer::value(granted))?;
-        ledger.check_window()
-    }
-
-    #[test]
-    fn grants_between_the_bounds() {
-        assert!(claims_after(0, 2_000, 1_919).is_err(), "less than the reservation");
-        assert!(claims_after(0, 2_000, 1_920).is_ok());
-        assert!(claims_after(0, 2_000, 2_000).is_ok());
-        assert!(claims_after(0, 2_000, 2_001).is_err(), "more than asked");
-        assert!(claims_after(0, 9_000, 5_120).is_ok(), "reservation and pool");
-        assert!(claims_after(0, 9_000, 5_121).is_err(), "others' reservation");
-        assert!(claims_after(0, 100, 0).is_err(), "nothing at all");
-    }
-
-    #[test]
-    fn weight_0_is_a_hard_limit() {
-        assert!(claims_after(1, 2_000, 1_280).is_ok());
-        assert!(claims_after(1, 2_000, 1_281).is_err());
-        assert!(claims_after(1, 2_000, 1_279).is_err());
-    }
-
-    #[test]
-    fn all_grants_fit_into_the_blocks() {
-        // an unset pair has no holder, but what it is given counts in the window's sum
-        assert!(claims_after(3, 6_400, 6_400).is_ok());
-        assert!(claims_after(3, 6_401, 6_401).is_err());
     }
 
     #[test]
@@ -351,25 +286,28 @@ mod tests {
         for (mode, place) in [(0, 2), (1, 2), (2, 0), (u64::MAX, 0)] {
             let (mut state, mut ledger) = in_use();
             make(&mut state, &mut ledger, &device(mode, 500)).unwrap();
-            let mut expected = vec![0; 8];
-            expected[place] = 500;
-            assert_eq!(ledger.window.asked, expected, "mode {mode}");
-            assert_eq!(ledger.window.granted, expected, "mode {mode}");
-            assert_eq!(ledger.window.sum, 500);
+            let (mut asked, mut granted) = (vec![0; 8], vec![Grant::default(); 8]);
+            asked[place] = 500;
+            granted[place].reserved = 500;
+            assert_eq!(ledger.window.asked, asked, "mode {mode}");
+            assert_eq!(ledger.window.granted, granted, "mode {mode}");
+            assert_eq!(ledger.window.all, Grant { reserved: 500, pool: 0 });
         }
     }
 
     #[test]
     fn a_devices_grant_is_claimed_by_its_own_holder() {
-        let (_, mut ledger) = in_use();
-        ledger.observe(&device(1, 2_000), Answer::value(1_281)).unwrap();
-        assert!(ledger.check_window().is_err(), "RCID 1 has weight 0 and 1,280 bytes");
-        let (_, mut ledger) = in_use();
-        ledger.observe(&device(2, 2_000), Answer::value(1_281)).unwrap();
-        assert!(ledger.check_window().is_err(), "RCID 0 has 1,920 bytes");
-        let (_, mut ledger) = in_use();
-        ledger.observe(&device(2, 2_000), Answer::value(1_920)).unwrap();
-        assert!(ledger.check_window().is_ok());
+        let claims = |mode, reserved, pool| {
+            let (_, mut ledger) = in_use();
+            ledger.observe(&device(mode, 2_000), Answer::granted(reserved, pool)).unwrap();
+            ledger.window.check(&ledger.setup, &ledger.active)
+        };
+        assert!(claims(1, 1_280, 0).is_ok());
+        assert!(claims(1, 1_280, 1).is_err(), "RCID 1 has weight 0 and 1,280 bytes");
+        assert!(claims(2, 1_280, 1).is_err(), "RCID 0 has 1,920 bytes");
+        assert!(claims(2, 1_920, 0).is_ok());
+        assert!(claims(2, 1_920, 80).is_ok());
+        assert!(claims(2, 1_919, 81).is_err(), "the pool before the reservation");
     }
 
     #[test]

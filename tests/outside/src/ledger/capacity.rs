@@ -7,7 +7,7 @@ use crate::model::capacity::{
     LAST_EVENT,
 };
 use crate::model::registers::{AT, CONFIG_LIMIT, DONE, OP, RCID};
-use crate::model::{access_type, Sizes};
+use crate::model::{access_type, Answer, Sizes};
 
 pub struct Ledger {
     setup: Setup,
@@ -83,9 +83,9 @@ impl super::Ledger for Ledger {
         }
     }
 
-    fn own(&mut self, call: &Call, answered: u64) -> Result<(), String> {
+    fn own(&mut self, call: &Call, answer: Answer) -> Result<(), String> {
         match call {
-            Call::Fill(event) => return self.fill(event, answered),
+            Call::Fill(event) => return self.fill(event, answer.value),
             Call::Evict(event) => self.evict(event),
             _ => {}
         }
@@ -142,7 +142,6 @@ impl Ledger {
 mod tests {
     use super::*;
     use crate::ledger::{make, Ledger as _};
-    use crate::model::Answer;
 
     const SETUP: Setup = Setup { ncblks: 8, nr: 4, na: 2, nm: 4, w: 24 };
 

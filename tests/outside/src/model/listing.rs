@@ -1,7 +1,7 @@
 //! The listing: a line of text is a call on the bandwidth controller, and its answer is a line too.
 
 use super::bandwidth::{Call, Request, Setup, State};
-use super::{Answer, Checked, Performs};
+use super::{Answer, Checked, Grant, Performs};
 
 /// The most bytes that a line has, its newline not counted.
 pub const LONGEST: usize = 80;
@@ -19,7 +19,7 @@ pub const BEFORE: &str = "before an accepted s";
 pub enum Reply {
     Done,
     Value(u64),
-    Granted(u64),
+    Granted(Grant),
     Refused(u64),
     Bad(&'static str),
 }
@@ -28,7 +28,7 @@ impl Reply {
     fn of(call: &Call, answer: Answer) -> Reply {
         match (call, answer.refusal) {
             (Call::Read { .. }, 0) => Reply::Value(answer.value),
-            (Call::Request(_), 0) => Reply::Granted(answer.value),
+            (Call::Request(_), 0) => Reply::Granted(answer.grant),
             (_, 0) => Reply::Done,
             (_, number) => Reply::Refused(number),
         }
@@ -39,7 +39,7 @@ impl Reply {
         match self {
             Reply::Done => "ok".into(),
             Reply::Value(value) => format!("{value:016x}"),
-            Reply::Granted(bytes) => bytes.to_string(),
+            Reply::Granted(Grant { reserved, pool }) => format!("{reserved} {pool}"),
             Reply::Refused(number) => format!("no {number}"),
             Reply::Bad(_) => "bad".into(),
         }

@@ -13,15 +13,30 @@ mod perform;
 pub mod registers;
 mod sizes;
 
+use std::ops::AddAssign;
+
 pub use check::Checked;
 pub use perform::Performs;
 pub use sizes::Sizes;
 
-/// What a call hands back: the refusal's number, 0 for none, and a value that is 0 after a refusal.
-#[derive(Clone, Copy, Debug, PartialEq, Eq)]
+/// What a call hands back: the refusal's number, 0 for none, and numbers that are 0 after a refusal
+/// and where the call has no such number.
+#[derive(Clone, Copy, Debug, PartialEq, Eq, Default)]
 pub struct Answer {
     pub refusal: u64,
+    /// What a read gives, and whether a fill is allowed.
     pub value: u64,
+    /// What a request is granted.
+    pub grant: Grant,
+}
+
+/// The bytes that are granted, by where they came from.
+#[derive(Clone, Copy, Debug, PartialEq, Eq, Default)]
+pub struct Grant {
+    /// From the holder's reservation.
+    pub reserved: u64,
+    /// From the pool.
+    pub pool: u64,
 }
 
 /// A call, as far as both controllers have it.
@@ -59,11 +74,28 @@ pub trait CommonCall {
 
 impl Answer {
     pub fn refused(number: u64) -> Answer {
-        Answer { refusal: number, value: 0 }
+        Answer { refusal: number, ..Answer::default() }
     }
 
     pub fn value(value: u64) -> Answer {
-        Answer { refusal: 0, value }
+        Answer { value, ..Answer::default() }
+    }
+
+    pub fn granted(reserved: u64, pool: u64) -> Answer {
+        Answer { grant: Grant { reserved, pool }, ..Answer::default() }
+    }
+}
+
+impl Grant {
+    pub fn sum(self) -> u64 {
+        self.reserved + self.pool
+    }
+}
+
+impl AddAssign for Grant {
+    fn add_assign(&mut self, other: Grant) {
+        self.reserved += other.reserved;
+        self.pool += other.pool;
     }
 }
 

@@ -20,8 +20,8 @@ pub trait Performs: Checked {
     /// A write of bw_alloc or block_mask, whole or in part.
     fn write_operand(&mut self, part: Part, value: u64);
 
-    /// A call that this controller alone has, and the value that it hands back.
-    fn own(&mut self, call: &Self::Call) -> u64;
+    /// A call that this controller alone has, and its answer.
+    fn own(&mut self, call: &Self::Call) -> Answer;
 
     /// Makes one call. `lengths` are those of the lent slices in bytes: record, then tables in order.
     fn perform(&mut self, lengths: &[usize], call: &Self::Call) -> Answer {
@@ -29,14 +29,15 @@ pub trait Performs: Checked {
         if refusal != 0 {
             return Answer::refused(refusal);
         }
-        let mut value = 0;
         match call.common() {
             Common::Reset(setup) => *self = Self::after_reset(setup),
-            Common::Read { size, offset } => value = access::read(self.registers(), size, offset),
+            Common::Read { size, offset } => {
+                return Answer::value(access::read(self.registers(), size, offset));
+            }
             Common::Write { size, offset, value } => self.write(size, offset, value),
-            Common::Own => value = self.own(call),
+            Common::Own => return self.own(call),
         }
-        Answer::value(value)
+        Answer::default()
     }
 
     fn write(&mut self, size: u64, offset: u64, value: u64) {

@@ -1,8 +1,10 @@
 //! What a run shows of requests of devices, each with the mode of the IOMMU.
 
 use super::super::{unknown, Labels};
+use super::grants::{source, SOURCES};
 use crate::model::bandwidth::device::{BARE, DC_TA, IOMMU_QOSID, OFF};
 use crate::model::bandwidth::{DeviceRequest, Setup, State};
+use crate::model::Grant;
 
 pub const OFF_NAME: &str = "device_request (off)";
 pub const BARE_NAME: &str = "device_request (bare)";
@@ -16,30 +18,22 @@ pub fn name(device: &DeviceRequest) -> &'static str {
     }
 }
 
-const IN_FULL: &str = "granted in full";
-const IN_PART: &str = "granted in part";
-const NOTHING: &str = "granted 0";
-const ASKED_0: &str = "asked 0";
 const COUNTED: &str = "counted";
 /// The word's fields of the other layout would be answered otherwise.
 const ONLY_HERE: &str = "accepted, refused by the other layout";
 const ONLY_THERE: &str = "refused, accepted by the other layout";
 
-pub fn accepted(before: &State, device: &DeviceRequest, granted: u64, after: &State) -> Labels {
-    let mcid = device.request().mcid as usize;
-    let mut outcomes = vec![match (granted, device.bytes as u64) {
-        (_, 0) => ASKED_0,
-        (0, _) => NOTHING,
-        (granted, asked) if granted < asked => IN_PART,
-        _ => IN_FULL,
-    }];
+pub fn accepted(before: &State, device: &DeviceRequest, grant: Grant, after: &State) -> Labels {
+    let request = device.request();
+    let mcid = request.mcid as usize;
+    let mut labels = vec![label(name(device), &source(before, &request, grant))];
     if before.counters[mcid] != after.counters[mcid] {
-        outcomes.push(COUNTED);
+        labels.push(label(name(device), COUNTED));
     }
     if !known_by_the_other_layout(&before.record.setup, device) {
-        outcomes.push(ONLY_HERE);
+        labels.push(label(name(device), ONLY_HERE));
     }
-    outcomes.into_iter().map(|outcome| label(name(device), outcome)).collect()
+    labels
 }
 
 pub fn refused(setup: &Setup, device: &DeviceRequest) -> Labels {
@@ -62,7 +56,8 @@ fn label(name: &str, outcome: &str) -> String {
 }
 
 pub fn required() -> Labels {
-    let outcomes = [IN_FULL, IN_PART, NOTHING, ASKED_0, COUNTED, ONLY_HERE, ONLY_THERE];
+    let outcomes: Vec<&str> = SOURCES.into_iter().chain([COUNTED, ONLY_HERE, ONLY_THERE]).collect();
     let names = [OFF_NAME, BARE_NAME, DIRECTORY_NAME];
-    names.iter().flat_map(|name| outcomes.map(|outcome| label(name, outcome))).collect()
+    let of_mode = |name| outcomes.iter().map(move |outcome| label(name, outcome));
+    names.into_iter().flat_map(of_mode).collect()
 }

@@ -15,7 +15,7 @@ pub use reset::first_settings;
 use super::access::Part;
 use super::monitor::Monitor;
 use super::registers::VERSION;
-use super::Performs;
+use super::{Answer, Performs};
 
 /// Bandwidth events: 0 none, 1 all bytes, 2 reads, 3 writes.
 pub const LAST_EVENT: u64 = 3;
@@ -132,14 +132,14 @@ impl Performs for State {
         }
     }
 
-    fn own(&mut self, call: &Call) -> u64 {
+    fn own(&mut self, call: &Call) -> Answer {
         match call {
-            Call::Request(request) => return request::grant(self, request),
-            Call::DeviceRequest(device) => return request::grant(self, &device.request()),
+            Call::Request(request) => return request::answer(self, request),
+            Call::DeviceRequest(device) => return request::answer(self, &device.request()),
             Call::EndWindow => end_window(self),
             _ => {}
         }
-        0
+        Answer::default()
     }
 }
 

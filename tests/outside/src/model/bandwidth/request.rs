@@ -4,18 +4,18 @@ use super::settings::{all_reserved, is_holder, is_sharer, reserved, shared_at, w
 use super::{Request, Setup, State};
 use crate::model::field::Field;
 use crate::model::monitor::{counts_access_type, event_of};
-use crate::model::{access_type, Sizes};
+use crate::model::{access_type, Answer, Sizes};
 
 pub const CTR: Field = Field::new(61, 0);
 pub const OVF: Field = Field::new(63, 63);
 
-/// Grants a request as far as its holder and the pool reach; gives the granted bytes.
-pub fn grant(state: &mut State, request: &Request) -> u64 {
+/// Grants a request as far as its holder and the pool reach.
+pub fn answer(state: &mut State, request: &Request) -> Answer {
     let setup = state.record.setup;
     let at = access_type(request.at, setup.na);
     let place = match holder_of(&setup, &state.active, request.rcid, at) {
         Some(place) => place,
-        None => return 0,
+        None => return Answer::granted(0, 0),
     };
     let asked = request.bytes as u64;
     let word = state.active[place];
@@ -30,7 +30,7 @@ pub fn grant(state: &mut State, request: &Request) -> u64 {
     if counted(state.events[mcid], at, request.kind) {
         state.counters[mcid] = add_to_counter(state.counters[mcid], own + extra, setup.w);
     }
-    own + extra
+    Answer::granted(own, extra)
 }
 
 /// The place of the holder that a pair's requests are led to by the words in force, if any.

@@ -10,7 +10,7 @@ pub use limits::{all_blocks, alloc_status, first_masks};
 use super::access::{write_part, Part};
 use super::monitor::Monitor;
 use super::registers::VERSION;
-use super::Performs;
+use super::{Answer, Performs};
 
 /// Capacity events: 0 none, 1 occupancy.
 pub const LAST_EVENT: u64 = 1;
@@ -107,13 +107,13 @@ impl Performs for State {
         self.record.block_mask = word & all_blocks(&self.record.setup);
     }
 
-    fn own(&mut self, call: &Call) -> u64 {
+    fn own(&mut self, call: &Call) -> Answer {
         match call {
-            Call::Fill(event) => return event::fill(self, event),
+            Call::Fill(event) => return Answer::value(event::fill(self, event)),
             Call::Evict(event) => event::evict(self, event),
             _ => {}
         }
-        0
+        Answer::default()
     }
 }
 
