@@ -1,7 +1,7 @@
 -- `bandwidth_bytes::reset::reset` meets its contract.
 use mathlib.Core.Path.{sym, _∙_}
 use borrow.Author.Needs.{needs}
-use Rattle.bandwidth_bytes.proofs.Lengths.{long, in-range}
+use Rattle.bandwidth_lent.proofs.Lengths.{long, in-range}
 use Rattle.bandwidth_bytes.proofs.Resets.{reset-refused, reset-done}
 use Rattle.bandwidth_bytes.proofs.reset.reset.Statement.{statement}
 use Rattle.bandwidth_bytes.proofs.reset.reset.Tie as tie
