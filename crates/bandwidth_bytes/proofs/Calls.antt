@@ -36,7 +36,7 @@ use Rattle.bandwidth_model.specs.Model.{State, writeAlloc, writeAt, step}
 use Rattle.bandwidth_model.proofs.Devices.{request-is, device-is}
 use Rattle.bandwidth_setup.specs.View.{setupOf}
 use Rattle.bandwidth.specs.declared.Record.{Record}
-use Rattle.bandwidth.specs.View.{state, outcome, readingOf}
+use Rattle.bandwidth.specs.View.{outcome, readingOf}
 use Rattle.bandwidth.proofs.Calls as bandwidth
 use Rattle.bandwidth.proofs.Calls.{end-done, request-unknown, request-done, known-rcid, request-fits, serve-row, write-alloc-at, write-bw-at, write-mon-at, write-none}
 use Rattle.bandwidth_lent.specs.Bytes.{Lent, lent, lentOf, pointers, stepBytes}
@@ -44,7 +44,7 @@ use Rattle.bandwidth_lent.specs.View.{wordsIn, stateIn, Tables, Passing, Checke
 use Rattle.bandwidth_lent.specs.declared.check.Held.{Held}
 use Rattle.bandwidth_lent.specs.declared.check.Check.{Check}
 use Rattle.bandwidth_lent.specs.declared.check.Check.the-variants.{Passed, Failed}
-use Rattle.bandwidth_lent.proofs.Steps.{answered}
+use Rattle.bandwidth_lent.proofs.Steps.{answered, same-bytes}
 use Rattle.bandwidth_bytes.specs.View.{Asks, GiveFits, Gave, Stores}
 
 -- ---- what the checks found
@@ -56,12 +56,6 @@ pub failed-of : {l : Lent} {r : Check} {n : ℕ} → Checked l r → r ≡ Faile
 failed-of {l} k e = subst (Checked l) e k
 
 -- ---- by the model's step
-
--- bytes that are those of a record's words and of the words of each table
-pub same-bytes : (r : Record) (a c u n e R A C U N E : List ℕ) → R ≡ bytesOfAll 8 (wordsIn r) → A ≡ bytesOfAll 4 a → C ≡ bytesOfAll 4 c → U ≡ bytesOfAll 4 u
-    → N ≡ bytesOfAll 8 n → E ≡ bytesOfAll 2 e → lent R A C U N E ≡ lentOf (state r a c u n e)
-unfolding lentOf
-same-bytes r a c u n e R A C U N E p q₁ q₂ q₃ q₄ q₅ = rw (p, q₁, q₂, q₃, q₄, q₅) refl
 
 module _ {l : Lent} {h : Held} (p : Passing l h) where
   abbrev s : State

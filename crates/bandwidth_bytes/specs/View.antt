@@ -2,7 +2,7 @@
 use mathlib.Core.Path.{_≡_}
 use mathlib.Core.List.{List}
 use Prim.Native.Nat.{ℕ, _+_, _*_, _≤_}
-use lib.ListN.{length, replicate}
+use lib.ListN.{length}
 use Rattle.words.specs.Words.{bytesOfAll, tableOf}
 use Rattle.tables.specs.Parts.{part, withPart}
 use Rattle.bandwidth_settings.specs.View.{allocation}
@@ -10,19 +10,11 @@ use Rattle.bandwidth_settings.specs.Rows.{writeRow}
 use Rattle.bandwidth_settings.specs.declared.Written.{Written}
 use Rattle.bandwidth_grants.specs.Grants.{RowFits, RowGiven}
 use Rattle.bandwidth_grants.specs.declared.Given.{Given}
-use Rattle.bandwidth_model.specs.Rules.{Setup, pairs, resetTable}
+use Rattle.bandwidth_model.specs.Rules.{Setup}
 use Rattle.bandwidth_model.specs.Calls.{Call}
 use Rattle.bandwidth_model.specs.View.{Requests}
 use Rattle.bandwidth_model.specs.Model.{Allocation}
 use Rattle.bandwidth_lent.specs.Bytes.{pointers}
-
--- the tables that a reset leaves
-pub record Fresh (su : Setup) (active configured used counters events : List ℕ) : Type 0 where
-  pub active-is : active ≡ bytesOfAll 4 (resetTable su)
-  pub configured-is : configured ≡ bytesOfAll 4 (resetTable su)
-  pub used-is : used ≡ bytesOfAll 4 (replicate (pairs su) 0)
-  pub counters-are : counters ≡ bytesOfAll 8 (replicate (su .nm) 0)
-  pub events-are : events ≡ bytesOfAll 2 (replicate (su .nm) 0)
 
 -- the call is a request with these identifiers, and hands back one number
 pub record Asks (c : Call) (n rcid mcid at kind bytes : ℕ) : Type 0 where

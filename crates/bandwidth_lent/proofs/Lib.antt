@@ -3,3 +3,4 @@ pub mod Lengths
 pub mod Parts
 pub mod Steps
 pub mod Checks
+pub mod Resets

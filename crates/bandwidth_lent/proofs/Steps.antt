@@ -1,9 +1,10 @@
 -- A call on bytes: refused by checks 1 and 2, or answered by the model's step.
 use mathlib.Core.Path.{_≡_, refl, sym, ap, _∙_}
 use mathlib.Core.Bool.{not}
+use mathlib.Core.List.{List}
 use Prim.Native.Nat.{ℕ}
 use lib.Dec.{T}
-use Rattle.words.specs.Words.{wordsOf}
+use Rattle.words.specs.Words.{wordsOf, bytesOfAll}
 use Rattle.replies.specs.Replies.{refusal}
 use Rattle.replies.proofs.Laws as laws
 use Rattle.bandwidth_model.specs.Rules.{Setup}
@@ -11,7 +12,8 @@ use Rattle.bandwidth_model.specs.Calls.{Call, reset, read, write, request, devi
 use Rattle.bandwidth_model.specs.Claim.{isReset}
 use Rattle.bandwidth_model.specs.Model.{State, Outcome, step}
 use Rattle.bandwidth.specs.declared.Record.{Record}
-use Rattle.bandwidth_lent.specs.Bytes.{Lent, stateOf, pointers, Reply, replyTo, setupFor, byteRefusal, stepBytes}
+use Rattle.bandwidth.specs.View.{state}
+use Rattle.bandwidth_lent.specs.Bytes.{Lent, lent, stateOf, lentOf, pointers, Reply, replyTo, setupFor, byteRefusal, stepBytes}
 use Rattle.bandwidth_lent.specs.View.{wordsIn, stateIn}
 
 -- ---- by checks 1 and 2
@@ -47,3 +49,9 @@ module _ (l : Lent) (r : Record) (w : wordsIn r ≡ wordsOf 8 12 (l .«record»)
   answered o e p q =
       laws.step-taken step pointers replyTo (λ k d. byteRefusal (setupFor k d) k) stateOf l c p (ap (λ (su : Setup). byteRefusal su l) (by-record l c t) ∙ z)
       (laws.answered step pointers replyTo l (stateOf l) c o (e ∙ ap (λ (s : State). step s c) (state-held l r w)) p q)
+
+-- bytes that are those of a record's words and of the words of each table
+pub same-bytes : (r : Record) (a c u n e R A C U N E : List ℕ) → R ≡ bytesOfAll 8 (wordsIn r) → A ≡ bytesOfAll 4 a → C ≡ bytesOfAll 4 c → U ≡ bytesOfAll 4 u
+    → N ≡ bytesOfAll 8 n → E ≡ bytesOfAll 2 e → lent R A C U N E ≡ lentOf (state r a c u n e)
+unfolding lentOf
+same-bytes r a c u n e R A C U N E p q₁ q₂ q₃ q₄ q₅ = rw (p, q₁, q₂, q₃, q₄, q₅) refl

@@ -6,11 +6,11 @@ use Prim.Native.Nat.{ℕ, _+_, _*_, _≤_}
 use denote.Ref.{RefT}
 use denote.Triple.Both.{Both}
 use lib.Dec.{T}
-use lib.ListN.{length}
-use Rattle.words.specs.Words.{wordsOf, tableOf, Holds}
+use lib.ListN.{length, replicate}
+use Rattle.words.specs.Words.{wordsOf, bytesOfAll, tableOf, Holds}
 use Rattle.replies.specs.Replies.{refusal}
 use Rattle.bandwidth_setup.specs.View.{setupOf}
-use Rattle.bandwidth_model.specs.Rules.{Setup, pairs}
+use Rattle.bandwidth_model.specs.Rules.{Setup, pairs, resetTable}
 use Rattle.bandwidth_model.specs.Calls.{Call}
 use Rattle.bandwidth_model.specs.Claim.{isReset}
 use Rattle.bandwidth_model.specs.Model.{State}
@@ -54,6 +54,14 @@ pub record Tables (su : Setup) (active configured used counters events : List �
 pub record Long (su : Setup) (l : Lent) : Type 0 where
   pub record-long : length (l .«record») ≡ recordLength
   pub tables : Tables su (l .active) (l .configured) (l .used) (l .counters) (l .events)
+
+-- the tables that a reset leaves
+pub record Fresh (su : Setup) (active configured used counters events : List ℕ) : Type 0 where
+  pub active-is : active ≡ bytesOfAll 4 (resetTable su)
+  pub configured-is : configured ≡ bytesOfAll 4 (resetTable su)
+  pub used-is : used ≡ bytesOfAll 4 (replicate (pairs su) 0)
+  pub counters-are : counters ≡ bytesOfAll 8 (replicate (su .nm) 0)
+  pub events-are : events ≡ bytesOfAll 2 (replicate (su .nm) 0)
 
 -- the record and the tables are the words of the bytes, both ways
 pub record Words (l : Lent) (r : Record) : Type 0 where

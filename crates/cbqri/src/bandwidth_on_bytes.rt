@@ -35,7 +35,7 @@ pub extern "C" fn cbqri_bandwidth_reset(
         q,
         w,
     };
-    bandwidth_bytes::reset::reset(record, active, configured, used, counters, events, setup)
+    bandwidth_lent::reset::reset(record, active, configured, used, counters, events, setup)
 }
 
 #[no_mangle]

@@ -1,8 +1,8 @@
 // Resets on bytes.
+use crate::lent::byte_refusal;
+use crate::record::store_record;
 use bandwidth::Record;
 use bandwidth::reset_row;
-use bandwidth_lent::byte_refusal;
-use bandwidth_lent::store_record;
 use bandwidth_setup::Setup;
 use words::clear8;
 use words::store_part32;
@@ -16,9 +16,8 @@ ghost use Rattle.replies.specs.Replies.{reply};
 ghost use Rattle.bandwidth_model.specs.Rules.{pairs, resetTable};
 ghost use Rattle.bandwidth_model.specs.View.{Ranges};
 ghost use Rattle.bandwidth_model.specs.Calls.{reset};
 ghost use Rattle.bandwidth_lent.specs.Bytes.{stepBytes};
-ghost use Rattle.bandwidth_lent.specs.View.{before, after, Tables};
-ghost use Rattle.bandwidth_bytes.specs.View.{Fresh};
+ghost use Rattle.bandwidth_lent.specs.View.{before, after, Tables, Fresh};
 
 // The settings of a reset, with the words of RCID 0 set out in `row`.
 fn fill_table(setup: Setup, table: &mut [u8], row: &mut [u32])

@@ -1,4 +1,4 @@
--- `bandwidth_bytes::reset::reset_tables` meets its contract.
+-- `bandwidth_lent::reset::reset_tables` meets its contract.
 use mathlib.Core.Path.{_≡_, sym, ap, _∙_}
 use mathlib.Core.List.{List}
 use Prim.Native.Nat.{ℕ, _*_}
@@ -6,8 +6,8 @@ use borrow.Author.Needs.{needs}
 use lib.ListN.{length, replicate}
 use Rattle.words.specs.Words.{bytesOfAll}
 use Rattle.words.proofs.Table.{zero-bytes}
-use Rattle.bandwidth_bytes.proofs.reset.reset_tables.Statement.{statement}
-use Rattle.bandwidth_bytes.proofs.reset.reset_tables.Tie as tie
+use Rattle.bandwidth_lent.proofs.reset.reset_tables.Statement.{statement}
+use Rattle.bandwidth_lent.proofs.reset.reset_tables.Tie as tie
 
 -- a table that was cleared
 zeros : (k n : ℕ) (old : List ℕ) {new : List ℕ} → new ≡ replicate (length old) 0 → length old ≡ n * k → new ≡ bytesOfAll k (replicate n 0)

@@ -1,4 +1,4 @@
--- `bandwidth_bytes::reset::fill_table` meets its contract.
+-- `bandwidth_lent::reset::fill_table` meets its contract.
 use mathlib.Core.Path.{ap, _∙_}
 use Prim.Native.Nat.{ℕ}
 use native.Mathlib.Omega.{arith}
@@ -7,9 +7,9 @@ use lib.ListN.{replicate}
 use Rattle.bandwidth_setup.specs.View.{setupOf}
 use Rattle.bandwidth.specs.View.{resetRow}
 use Rattle.bandwidth.proofs.ResetTable.{first-inside}
-use Rattle.bandwidth_bytes.proofs.Resets.{reset-stored}
-use Rattle.bandwidth_bytes.proofs.reset.fill_table.Statement.{statement}
-use Rattle.bandwidth_bytes.proofs.reset.fill_table.Tie as tie
+use Rattle.bandwidth_lent.proofs.Resets.{reset-stored}
+use Rattle.bandwidth_lent.proofs.reset.fill_table.Statement.{statement}
+use Rattle.bandwidth_lent.proofs.reset.fill_table.Tie as tie
 
 store-part32-requires : tie.Need-store-part32-requires
 store-part32-requires c κs =

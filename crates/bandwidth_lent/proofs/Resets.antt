@@ -22,12 +22,10 @@ use Rattle.bandwidth.specs.View.{resetRow}
 use Rattle.bandwidth.proofs.Checks.{lengths-ok}
 use Rattle.bandwidth.proofs.Calls.{reset-0}
 use Rattle.bandwidth.proofs.ResetTable.{reset-words}
 use Rattle.bandwidth_lent.specs.Bytes.{Lent, lent, stateOf, pointers, replyTo, setupFor, byteRefusal, stepBytes}
-use Rattle.bandwidth_lent.specs.View.{wordsIn}
+use Rattle.bandwidth_lent.specs.View.{wordsIn, Fresh}
 use Rattle.bandwidth_lent.proofs.Lengths.{long, in-range, words-sized}
-use Rattle.bandwidth_lent.proofs.Steps.{step-refused}
-use Rattle.bandwidth_bytes.specs.View.{Fresh}
-use Rattle.bandwidth_bytes.proofs.Calls.{same-bytes}
+use Rattle.bandwidth_lent.proofs.Steps.{step-refused, same-bytes}
 
 -- zeros with the words of RCID 0 stored at the front
 pub reset-stored : (su : rules.Setup) → Ranges su → (row zeros new : List ℕ) → row ≡ resetRow su (su .na) → length row ≡ su .na → zeros ≡ replicate (pairs su * 4) 0

@@ -1,10 +1,10 @@
--- `bandwidth_bytes::reset::reset_table` meets its contract.
+-- `bandwidth_lent::reset::reset_table` meets its contract.
 use mathlib.Core.Path.{sym}
 use lib.ListN.{replicate}
 use lib.Seq.{length-take-le}
 use borrow.Author.Needs.{needs}
-use Rattle.bandwidth_bytes.proofs.reset.reset_table.Statement.{statement}
-use Rattle.bandwidth_bytes.proofs.reset.reset_table.Tie as tie
+use Rattle.bandwidth_lent.proofs.reset.reset_table.Statement.{statement}
+use Rattle.bandwidth_lent.proofs.reset.reset_table.Tie as tie
 
 slice-aggregate-fill-table : tie.Need-slice-aggregate-fill-table
 slice-aggregate-fill-table c = sym (length-take-le _ (replicate 8 0) (c .before .before .before .pre .0 .na-high))

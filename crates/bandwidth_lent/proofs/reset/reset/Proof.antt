@@ -1,10 +1,10 @@
--- `bandwidth_bytes::reset::reset` meets its contract.
+-- `bandwidth_lent::reset::reset` meets its contract.
 use mathlib.Core.Path.{sym, _∙_}
 use borrow.Author.Needs.{needs}
 use Rattle.bandwidth_lent.proofs.Lengths.{long, in-range}
-use Rattle.bandwidth_bytes.proofs.Resets.{reset-refused, reset-done}
-use Rattle.bandwidth_bytes.proofs.reset.reset.Statement.{statement}
-use Rattle.bandwidth_bytes.proofs.reset.reset.Tie as tie
+use Rattle.bandwidth_lent.proofs.Resets.{reset-refused, reset-done}
+use Rattle.bandwidth_lent.proofs.reset.reset.Statement.{statement}
+use Rattle.bandwidth_lent.proofs.reset.reset.Tie as tie
 
 returns : tie.Need-returns
 returns c = reset-refused _ _ _ (c .before .byte-refusal .ensures) (c .if1 .taken)
