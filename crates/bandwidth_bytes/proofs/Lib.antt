@@ -1,5 +1,2 @@
-pub mod Lengths
 pub mod Parts
 pub mod Calls
-pub mod Checks
-pub mod Resets

@@ -1,11 +1,6 @@
-// The bandwidth controller's calls on a record and tables of bytes: check 3 by parts, and the words that a call names.
-mod check;
-mod lent;
+// The bandwidth controller's calls but a reset on a record and tables of bytes: checks 1 to 3, then the words that a call names.
 pub mod read;
-mod record;
 pub mod request;
-pub mod reset;
-mod sums;
 pub mod window;
 pub mod write;
 

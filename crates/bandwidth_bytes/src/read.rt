@@ -1,15 +1,15 @@
 // Reads on bytes.
 use crate::Answer;
-use crate::check::Check;
-use crate::check::checked;
 use access::Reading;
 use access::refusal_number;
+use bandwidth_lent::Check;
+use bandwidth_lent::checked;
 ghost use mathlib.Core.Path.{_≡_};
 ghost use mathlib.Core.List.{[], _∷_};
 ghost use Rattle.replies.specs.Replies.{reply};
 ghost use Rattle.bandwidth_model.specs.Calls.{read};
-ghost use Rattle.bandwidth_bytes.specs.Bytes.{stepBytes};
-ghost use Rattle.bandwidth_bytes.specs.View.{before, after};
+ghost use Rattle.bandwidth_lent.specs.Bytes.{stepBytes};
+ghost use Rattle.bandwidth_lent.specs.View.{before, after};
 
 pub fn read(
     record: &[u8],

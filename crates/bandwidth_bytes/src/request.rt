@@ -1,13 +1,13 @@
 // Requests on bytes.
 use crate::Answer;
-use crate::check::Check;
-use crate::check::Held;
-use crate::check::checked;
 use access::Refusal;
 use access::known_at;
 use access::refusal_number;
 use bandwidth_grants::Given;
 use bandwidth_grants::give;
+use bandwidth_lent::Check;
+use bandwidth_lent::Held;
+use bandwidth_lent::checked;
 use bandwidth_setup::Setup;
 use devices::identifiers_in;
 use devices::out_of_range;
@@ -27,8 +27,9 @@ ghost use Rattle.replies.specs.Replies.{reply};
 ghost use Rattle.access.specs.Refusals.{numberOf};
 ghost use Rattle.bandwidth_model.specs.Calls.{Call, request, deviceRequest};
 ghost use Rattle.bandwidth_model.specs.View.{Requests};
-ghost use Rattle.bandwidth_bytes.specs.Bytes.{lent, stepBytes};
-ghost use Rattle.bandwidth_bytes.specs.View.{before, after, Passing, Asks, GiveFits, Gave};
+ghost use Rattle.bandwidth_lent.specs.Bytes.{lent, stepBytes};
+ghost use Rattle.bandwidth_lent.specs.View.{before, after, Passing};
+ghost use Rattle.bandwidth_bytes.specs.View.{Asks, GiveFits, Gave};
 
 // A request by n words of its RCID from the word `from` on, with arrays for them.
 fn give_loaded(

@@ -1,6 +1,6 @@
 // Window ends on bytes.
-use crate::check::Check;
-use crate::check::checked;
+use bandwidth_lent::Check;
+use bandwidth_lent::checked;
 use words::clear8;
 use words::copy8;
 use words::put64;
@@ -8,8 +8,8 @@ ghost use mathlib.Core.Path.{_≡_};
 ghost use mathlib.Core.List.{[]};
 ghost use Rattle.replies.specs.Replies.{reply};
 ghost use Rattle.bandwidth_model.specs.Calls.{endWindow};
-ghost use Rattle.bandwidth_bytes.specs.Bytes.{stepBytes};
-ghost use Rattle.bandwidth_bytes.specs.View.{before, after};
+ghost use Rattle.bandwidth_lent.specs.Bytes.{stepBytes};
+ghost use Rattle.bandwidth_lent.specs.View.{before, after};
 
 pub fn end_window(
     record: &mut [u8],

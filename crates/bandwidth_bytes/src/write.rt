@@ -1,12 +1,12 @@
 // Writes on bytes.
-use crate::check::Check;
-use crate::check::Held;
-use crate::check::checked;
-use crate::record::store_record;
 use access::Verdict;
 use access::refusal_number;
 use access::write_verdict;
 use bandwidth::Record;
+use bandwidth_lent::Check;
+use bandwidth_lent::Held;
+use bandwidth_lent::checked;
+use bandwidth_lent::store_record;
 use bandwidth_settings::Written;
 use bandwidth_settings::bw_word;
 use bandwidth_settings::named_row;
@@ -28,8 +28,9 @@ ghost use Rattle.bandwidth_settings.specs.Rows.{Reserves};
 ghost use Rattle.replies.specs.Replies.{reply};
 ghost use Rattle.bandwidth_model.specs.Calls.{write};
 ghost use Rattle.bandwidth_model.specs.Model.{writeAlloc, writeAt};
-ghost use Rattle.bandwidth_bytes.specs.Bytes.{lent, lentOf, stepBytes};
-ghost use Rattle.bandwidth_bytes.specs.View.{before, after, wordsIn, stateIn, Passing, Wrote, Stores};
+ghost use Rattle.bandwidth_lent.specs.Bytes.{lent, lentOf, stepBytes};
+ghost use Rattle.bandwidth_lent.specs.View.{before, after, wordsIn, stateIn, Passing};
+ghost use Rattle.bandwidth_bytes.specs.View.{Wrote, Stores};
 
 // A write of v to alloc_ctl by n words of the RCID that it names from the word `from` on, with an array for them.
 fn write_loaded(

@@ -4,8 +4,8 @@ ghost use mathlib.Core.Path.{_≡_};
 ghost use mathlib.Core.List.{[], _∷_};
 ghost use Rattle.bandwidth_model.specs.Calls.{reset, read, write, request, endWindow};
 ghost use Rattle.replies.specs.Replies.{reply};
-ghost use Rattle.bandwidth_bytes.specs.Bytes.{setupBy, stepBytes};
-ghost use Rattle.bandwidth_bytes.specs.View.{before, after};
+ghost use Rattle.bandwidth_lent.specs.Bytes.{setupBy, stepBytes};
+ghost use Rattle.bandwidth_lent.specs.View.{before, after};
 
 #[no_mangle]
 pub extern "C" fn cbqri_bandwidth_reset(
@@ -35,7 +35,7 @@ pub extern "C" fn cbqri_bandwidth_reset(
         q,
         w,
     };
-    bandwidth_bytes::reset::reset(record, active, configured, used, counters, events, setup)
+    bandwidth_lent::reset::reset(record, active, configured, used, counters, events, setup)
 }
 
 #[no_mangle]

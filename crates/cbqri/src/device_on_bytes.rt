@@ -3,8 +3,8 @@ ghost use mathlib.Core.Path.{_≡_};
 ghost use mathlib.Core.List.{[], _∷_};
 ghost use Rattle.bandwidth_model.specs.Calls.{deviceRequest};
 ghost use Rattle.replies.specs.Replies.{reply};
-ghost use Rattle.bandwidth_bytes.specs.Bytes.{stepBytes};
-ghost use Rattle.bandwidth_bytes.specs.View.{before, after};
+ghost use Rattle.bandwidth_lent.specs.Bytes.{stepBytes};
+ghost use Rattle.bandwidth_lent.specs.View.{before, after};
 
 #[no_mangle]
 pub extern "C" fn cbqri_bandwidth_device_request(

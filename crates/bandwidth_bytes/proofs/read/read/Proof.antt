@@ -1,7 +1,7 @@
 -- `bandwidth_bytes::read::read` meets its contract.
 use borrow.Author.Needs.{needs}
 use Rattle.bandwidth_model.specs.Calls.{read}
-use Rattle.bandwidth_bytes.specs.Bytes.{pointers}
+use Rattle.bandwidth_lent.specs.Bytes.{pointers}
 use Rattle.bandwidth_bytes.proofs.Calls.{passed-of, failed-of, read-refused, read-value}
 use Rattle.bandwidth_bytes.proofs.read.read.Statement.{statement}
 use Rattle.bandwidth_bytes.proofs.read.read.Tie as tie

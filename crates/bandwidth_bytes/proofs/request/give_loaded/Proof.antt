@@ -1,7 +1,8 @@
 -- `bandwidth_bytes::request::give_loaded` meets its contract.
 use mathlib.Core.Path.{_∙_}
 use borrow.Author.Needs.{needs}
-use Rattle.bandwidth_bytes.proofs.Parts.{loaded, put-back, fits-loaded, given-loaded}
+use Rattle.bandwidth_lent.proofs.Parts.{loaded}
+use Rattle.bandwidth_bytes.proofs.Parts.{put-back, fits-loaded, given-loaded}
 use Rattle.bandwidth_bytes.proofs.request.give_loaded.Statement.{statement}
 use Rattle.bandwidth_bytes.proofs.request.give_loaded.Tie as tie
 

@@ -2,7 +2,7 @@
 use mathlib.Core.Path.{sym, _∙_}
 use borrow.Author.Needs.{needs}
 use Rattle.bandwidth_model.specs.Calls.{endWindow}
-use Rattle.bandwidth_bytes.specs.Bytes.{pointers}
+use Rattle.bandwidth_lent.specs.Bytes.{pointers}
 use Rattle.bandwidth_bytes.proofs.Calls.{passed-of, failed-of, window-ended}
 use Rattle.bandwidth_bytes.proofs.window.end_window.Statement.{statement}
 use Rattle.bandwidth_bytes.proofs.window.end_window.Tie as tie

@@ -3,7 +3,7 @@ use mathlib.Core.Path.{sym, ap, _∙_}
 use borrow.Author.Needs.{needs}
 use Rattle.access.specs.View.{verdictOf}
 use Rattle.bandwidth_model.specs.Calls.{write}
-use Rattle.bandwidth_bytes.specs.Bytes.{pointers}
+use Rattle.bandwidth_lent.specs.Bytes.{pointers}
 use Rattle.bandwidth_bytes.proofs.Calls.{passed-of, failed-of, write-refused, written}
 use Rattle.bandwidth_bytes.proofs.write.write.Statement.{statement}
 use Rattle.bandwidth_bytes.proofs.write.write.Tie as tie

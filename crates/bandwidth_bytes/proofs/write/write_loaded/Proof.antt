@@ -5,7 +5,8 @@ use Prim.Native.Nat.{ℕ}
 use borrow.Author.Needs.{needs}
 use Rattle.bandwidth_setup.specs.View.{setupOf}
 use Rattle.bandwidth_settings.specs.Rows.{writeRow}
-use Rattle.bandwidth_bytes.proofs.Parts.{loaded, put-back}
+use Rattle.bandwidth_lent.proofs.Parts.{loaded}
+use Rattle.bandwidth_bytes.proofs.Parts.{put-back}
 use Rattle.bandwidth_bytes.proofs.write.write_loaded.Statement.{statement}
 use Rattle.bandwidth_bytes.proofs.write.write_loaded.Tie as tie
 
