@@ -78,19 +78,19 @@ module _ {l : Lent} {h : Held} (p : Passing l h) where
     pub value-then : (v : ℕ) → outcome (value v) s ≡ step s c → reply 0 (v ∷ []) l ≡ stepBytes l c
     value-then v e = answered l (h .«record») (p .record-is) (p .none) c t _ e _ (ap (reply 0 (v ∷ [])) kept)
 
-    pub granted-then : (v : ℕ) (x : State) (l′ : Lent) → outcome (granted v) x ≡ step s c → l′ ≡ lentOf x → reply 0 (v ∷ []) l′ ≡ stepBytes l c
-    granted-then v x l′ e q = answered l (h .«record») (p .record-is) (p .none) c t _ e _ (ap (reply 0 (v ∷ [])) q)
+    pub granted-then : (v w : ℕ) (x : State) (l′ : Lent) → outcome (granted v w) x ≡ step s c → l′ ≡ lentOf x → reply 0 (v ∷ w ∷ []) l′ ≡ stepBytes l c
+    granted-then v w x l′ e q = answered l (h .«record») (p .record-is) (p .none) c t _ e _ (ap (reply 0 (v ∷ w ∷ [])) q)
 
 -- ---- a request of either kind
 
 pub request-asks : (rcid mcid at kind bytes : ℕ) → Asks (request rcid mcid at kind bytes) 7 rcid mcid at kind bytes
 unfolding pointers
-request-asks rcid mcid at kind bytes = record { is = request-is rcid mcid at kind bytes; one = refl }
+request-asks rcid mcid at kind bytes = record { is = request-is rcid mcid at kind bytes; two = refl }
 
 pub device-asks : (mode word at kind bytes : ℕ) {ids : Identifiers} {n : ℕ} → ids ≡ identifiersIn mode word → n ≡ outOfRange mode
     → Asks (deviceRequest mode word at kind bytes) n (ids .rcid) (ids .mcid) at kind bytes
 unfolding pointers
-device-asks mode word at kind bytes e q = record { is = device-is mode word at kind bytes e q; one = refl }
+device-asks mode word at kind bytes e q = record { is = device-is mode word at kind bytes e q; two = refl }
 
 -- ---- each call
 
@@ -123,9 +123,9 @@ module _ {l : Lent} {h : Held} (p : Passing l h) where
 
   module _ (rcid mcid at kind bytes : ℕ) where
     pub request-unnamed : {c : Call} (why : Refusal) {r : ℕ} → Asks c (numberOf why) rcid mcid at kind bytes → (leb (su .nr) rcid || leb (su .nm) mcid) ≡ true → r ≡ numberOf why
-        → reply r (0 ∷ []) l ≡ stepBytes l c
+        → reply r (0 ∷ 0 ∷ []) l ≡ stepBytes l c
     request-unnamed {c} why k e q =
-        rw q (rw (k .one) at (refused-then p c (k .is .no-reset) (numberOf why) (request-unknown (p .passes) (k .is) e why refl)))
+        rw q (rw (k .two) at (refused-then p c (k .is .no-reset) (numberOf why) (request-unknown (p .passes) (k .is) e why refl)))
 
     module _ (e : (leb (su .nr) rcid || leb (su .nm) mcid) ≡ false) {a from to : ℕ} (k : a ≡ knownAt (su .na) at) (w : RowAt (su .nr) (su .na) rcid from to) where
       -- the words of the RCID
@@ -140,11 +140,11 @@ module _ {l : Lent} {h : Held} (p : Passing l h) where
       pub served : {r : Given} {R U N : List ℕ} → Gave su (l .active) (l .used) from (to - from) (h .«record» .pool) (h .totals .active) a bytes U r
           → R ≡ withWord 8 (l .«record») 11 (r .pool)
           → ((ns es : List ℕ) → Holds 8 (l .counters) ns → Holds 2 (l .events) es
-          → N ≡ bytesOfAll 8 (cond (countsRequest (getD es mcid 0) a kind) (set ns mcid (added (su .w) (r .bytes) (getD ns mcid 0))) ns))
-          → (c : Call) (m : ℕ) → Requests c m rcid mcid at kind bytes → reply 0 (r .bytes ∷ []) (lent R (l .active) (l .configured) U N (l .events)) ≡ stepBytes l c
+          → N ≡ bytesOfAll 8 (cond (countsRequest (getD es mcid 0) a kind) (set ns mcid (added (su .w) (r .sum) (getD ns mcid 0))) ns))
+          → (c : Call) (m : ℕ) → Requests c m rcid mcid at kind bytes → reply 0 (r .grant .reserved ∷ r .grant .pool ∷ []) (lent R (l .active) (l .configured) U N (l .events)) ≡ stepBytes l c
       served {r} g q n c m i =
           let x = p .words in
-          granted-then p c (i .no-reset) (r .bytes) _ _
+          granted-then p c (i .no-reset) (r .grant .reserved) (r .grant .pool) _ _
           (request-done (p .passes) i e _ (serve-row (p .passes) at bytes (known-rcid (su .nr) (su .nm) rcid mcid e) k w mcid kind (g .given) refl))
           (same-bytes _ _ _ _ _ _ _ _ _ _ _ _ (q ∙ put-held 8 (lit< tt) 11 (r .pool) (l .«record») (wordsIn (h .«record»)) (x .«record»)) (x .active .bytes-are) (x .configured .bytes-are)
           (g .bytes-are (x .used .bytes-are)) (n _ _ (x .counters) (x .events)) (x .events .bytes-are))

@@ -6,6 +6,7 @@ use lib.ListN.{length}
 use Rattle.tables.specs.Parts.{withPart, RowAt}
 use Rattle.words.specs.Words.{bytesOfAll, tableOf, Holds}
 use Rattle.bandwidth_model.specs.Rules.{Setup}
+use Rattle.bandwidth_model.specs.Calls.{Grant}
 use Rattle.bandwidth_model.specs.Model.{Allocation, writeAlloc}
 use Rattle.allocation.specs.Allocation.{rcidOf}
 use Rattle.bandwidth_settings.specs.View.{Ready}
@@ -24,7 +25,7 @@ module _ {su : Setup} {reserved pool at bytes : ℕ} {a u a′ u′ : List ℕ} 
   pub fits-loaded : RowFits su reserved a′ u′ pool at bytes → RowFits su reserved a u pool at bytes
   fits-loaded w = rw (x, y) w
 
-  pub given-loaded : {left : List ℕ} {sum gave : ℕ} → RowGiven su reserved a u pool at bytes left sum gave → RowGiven su reserved a′ u′ pool at bytes left sum gave
+  pub given-loaded : {left : List ℕ} {g : Grant} {sum gave : ℕ} → RowGiven su reserved a u pool at bytes left g sum gave → RowGiven su reserved a′ u′ pool at bytes left g sum gave
   given-loaded w = rw (← x, ← y) w
 
 -- ---- a write to alloc_ctl

@@ -8,6 +8,7 @@ use Rattle.tables.specs.Parts.{part, withPart}
 use Rattle.bandwidth_settings.specs.View.{allocation}
 use Rattle.bandwidth_settings.specs.Rows.{writeRow}
 use Rattle.bandwidth_settings.specs.declared.Written.{Written}
+use Rattle.bandwidth_grants.specs.View.{grantFrom}
 use Rattle.bandwidth_grants.specs.Grants.{RowFits, RowGiven}
 use Rattle.bandwidth_grants.specs.declared.Given.{Given}
 use Rattle.bandwidth_model.specs.Rules.{Setup}
@@ -16,10 +17,10 @@ use Rattle.bandwidth_model.specs.View.{Requests}
 use Rattle.bandwidth_model.specs.Model.{Allocation}
 use Rattle.bandwidth_lent.specs.Bytes.{pointers}
 
--- the call is a request with these identifiers, and hands back one number
+-- the call is a request with these identifiers, and hands back two numbers
 pub record Asks (c : Call) (n rcid mcid at kind bytes : ℕ) : Type 0 where
   pub is : Requests c n rcid mcid at kind bytes
-  pub one : pointers c ≡ 1
+  pub two : pointers c ≡ 2
 
 -- n words of two tables from the word from on, and a request on them that fits
 pub record GiveFits (su : Setup) (active used : List ℕ) (from n pool reserved at bytes : ℕ) : Type 0 where
@@ -30,7 +31,7 @@ pub record GiveFits (su : Setup) (active used : List ℕ) (from n pool reserved 
 -- the used words that the request leaves
 pub record Gave (su : Setup) (active used : List ℕ) (from n pool reserved at bytes : ℕ) (new : List ℕ) (r : Given) : Type 0 where
   pub left : List ℕ
-  pub given : RowGiven su reserved (part from n (tableOf 4 active)) (part from n (tableOf 4 used)) pool at bytes left (r .bytes) (r .pool)
+  pub given : RowGiven su reserved (part from n (tableOf 4 active)) (part from n (tableOf 4 used)) pool at bytes left (grantFrom (r .grant)) (r .sum) (r .pool)
   pub bytes-are : used ≡ bytesOfAll 4 (tableOf 4 used) → new ≡ bytesOfAll 4 (withPart from n (tableOf 4 used) left)
 
 -- the configured words that a write to alloc_ctl leaves

@@ -4,8 +4,16 @@ pub mod request;
 pub mod window;
 pub mod write;
 
-// The refusal's number, 0 for none, and the value read or the bytes granted.
+use bandwidth_grants::Grant;
+
+// The refusal's number, 0 for none, and the value read.
 pub struct Answer {
     pub number: u64,
     pub value: u64,
+}
+
+// The refusal's number, 0 for none, and the bytes granted.
+pub struct Served {
+    pub number: u64,
+    pub grant: Grant,
 }

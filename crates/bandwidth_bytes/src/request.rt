@@ -1,9 +1,10 @@
 // Requests on bytes.
-use crate::Answer;
+use crate::Served;
 use access::Refusal;
 use access::known_at;
 use access::refusal_number;
 use bandwidth_grants::Given;
+use bandwidth_grants::Grant;
 use bandwidth_grants::give;
 use bandwidth_lent::Check;
 use bandwidth_lent::Held;
@@ -100,11 +101,11 @@ fn serve(
     at: u64,
     kind: u64,
     bytes: u32,
-) -> u64
+) -> Grant
     requires { ⌜ Passing (lent (now «record») (now active) (now configured) (now used) (now counters) (now events)) held
         × ((leb (held .«record» .setup .nr) rcid || leb (held .«record» .setup .nm) mcid) ≡ false) ⌝ }
     ensures { λ r. ⌜ ((c : Call) (n : ℕ) → Requests c n rcid mcid at kind bytes
-        → reply 0 (r ∷ []) (after «record» active configured used counters events) ≡ stepBytes (before «record» active configured used counters events) c) ⌝ }
+        → reply 0 (r .reserved ∷ r .pool ∷ []) (after «record» active configured used counters events) ≡ stepBytes (before «record» active configured used counters events) c) ⌝ }
 {
     let given = held.record;
     let totals = held.totals;
@@ -123,9 +124,9 @@ fn serve(
         bytes as u64,
     );
     put64(record, 11, gave.pool);
-    let sum = gave.bytes;
+    let sum = gave.sum;
     count_bytes(setup.w, counters, events, mcid, at, kind, sum);
-    sum
+    gave.grant
 }
 
 // A request with these identifiers, refused for `unknown` where one of them is out of range.
@@ -142,22 +143,29 @@ fn request_by(
     at: u64,
     kind: u64,
     bytes: u32,
-) -> Answer
+) -> Served
     ensures { λ r. ⌜ ((c : Call) → Asks c (numberOf unknown) rcid mcid at kind bytes
-        → reply (r .number) (r .value ∷ []) (after «record» active configured used counters events) ≡ stepBytes (before «record» active configured used counters events) c) ⌝ }
+        → reply (r .number) (r .grant .reserved ∷ r .grant .pool ∷ []) (after «record» active configured used counters events) ≡ stepBytes (before «record» active configured used counters events) c) ⌝ }
 {
+    let none = Grant {
+        reserved: 0,
+        pool: 0,
+    };
     match checked(record, active, configured, used, counters, events) {
-        Check::Failed(number) => Answer { number, value: 0 },
+        Check::Failed(number) => Served {
+            number,
+            grant: none,
+        },
         Check::Passed(held) => {
             let given = held.record;
             let setup = given.setup;
             if (setup.nr <= rcid) | (setup.nm <= mcid) {
-                return Answer {
+                return Served {
                     number: refusal_number(unknown),
-                    value: 0,
+                    grant: none,
                 };
             }
-            let value = serve(
+            let grant = serve(
                 held,
                 record,
                 active,
@@ -171,7 +179,7 @@ fn request_by(
                 kind,
                 bytes,
             );
-            Answer { number: 0, value }
+            Served { number: 0, grant }
         }
     }
 }
@@ -188,8 +196,8 @@ pub fn request(
     at: u64,
     kind: u64,
     bytes: u32,
-) -> Answer
-    ensures { λ r. ⌜ reply (r .number) (r .value ∷ []) (after «record» active configured used counters events) ≡ stepBytes (before «record» active configured used counters events) (request rcid mcid at kind bytes) ⌝ }
+) -> Served
+    ensures { λ r. ⌜ reply (r .number) (r .grant .reserved ∷ r .grant .pool ∷ []) (after «record» active configured used counters events) ≡ stepBytes (before «record» active configured used counters events) (request rcid mcid at kind bytes) ⌝ }
 {
     request_by(
         record,
@@ -220,8 +228,8 @@ pub fn device_request(
     at: u64,
     kind: u64,
     bytes: u32,
-) -> Answer
-    ensures { λ r. ⌜ reply (r .number) (r .value ∷ []) (after «record» active configured used counters events) ≡ stepBytes (before «record» active configured used counters events) (deviceRequest mode word at kind bytes) ⌝ }
+) -> Served
+    ensures { λ r. ⌜ reply (r .number) (r .grant .reserved ∷ r .grant .pool ∷ []) (after «record» active configured used counters events) ≡ stepBytes (before «record» active configured used counters events) (deviceRequest mode word at kind bytes) ⌝ }
 {
     let ids = identifiers_in(mode, word);
     request_by(

@@ -108,12 +108,13 @@ pub extern "C" fn cbqri_bandwidth_request(
     at: u64,
     kind: u64,
     bytes: u32,
-    granted: &mut u64,
+    reserved: &mut u64,
+    pool: &mut u64,
 ) -> u64
-    ensures { λ r. ⌜ reply r (now (granted .exit) ∷ []) (after «record» active configured used counters events)
+    ensures { λ r. ⌜ reply r (now (reserved .exit) ∷ now (pool .exit) ∷ []) (after «record» active configured used counters events)
         ≡ stepBytes (before «record» active configured used counters events) (request rcid mcid at kind bytes) ⌝ }
 {
-    let answer = bandwidth_bytes::request::request(
+    let served = bandwidth_bytes::request::request(
         record,
         active,
         configured,
@@ -126,8 +127,10 @@ pub extern "C" fn cbqri_bandwidth_request(
         kind,
         bytes,
     );
-    *granted = answer.value;
-    answer.number
+    let grant = served.grant;
+    *reserved = grant.reserved;
+    *pool = grant.pool;
+    served.number
 }
 
 #[no_mangle]

@@ -12,7 +12,7 @@ serve-requires : tie.Need-serve-requires
 serve-requires c κs = (passed-of (c .before .before .before .before .before .before .before .before .before .before .before .checked .ensures) (c .before .before .before .before .before .before .before .before .before .held .given .1), c .before .before .before .if1 .left)
 
 returns-2 : tie.Need-returns-2
-returns-2 c d k = rw (k .one) at (failed-of (c .before .before .before .checked .ensures) (c .before .number .given .1) d (k .is .no-reset))
+returns-2 c d k = rw (k .two) at (failed-of (c .before .before .before .checked .ensures) (c .before .number .given .1) d (k .is .no-reset))
 
 returns-3 : tie.Need-returns-3
 returns-3 c d k = c .before .before .before .before .before .before .serve .ensures d _ (k .is)

@@ -17,9 +17,13 @@ count-bytes-requires c κs = let s = c .before .before .before .before .before .
 
 returns : tie.Need-returns
 returns c =
-    let s = c .before .before .before .before .before .before .before .before .before .before .before .before .before .before .before .before .before .before .before .before .before .before .before .before in
-    served (s .pre .0) (s .args .rcid) (s .args .mcid) (s .args .at) (s .args .kind) (s .args .bytes) (s .pre .1) (c .before .before .before .before .before .before .before .before .before .before .before .before .before .before .known-at .ensures) (c .before .before .before .before .before .before .before .before .before .before .before .before .before .row-at .ensures) (c .before .before .before .before .before .before .before .before .before .before .give-bytes .ensures)
-    (c .before .before .before .before .before .before .put64 .ensures) (c .before .before .count-bytes .ensures)
+    let n = c .before .before .before in
+    let r = n .before .before .before .before in
+    let g = r .before .before .before .before in
+    let w = g .before .before .before in
+    let s = w .before .before .before .before .before .before .before .before .before .before .before in
+    served (s .pre .0) (s .args .rcid) (s .args .mcid) (s .args .at) (s .args .kind) (s .args .bytes) (s .pre .1) (w .before .known-at .ensures) (w .row-at .ensures) (g .give-bytes .ensures)
+    (r .put64 .ensures) (n .count-bytes .ensures)
 
 pub serve-spec : {M : Type 1} → statement M
 serve-spec =
