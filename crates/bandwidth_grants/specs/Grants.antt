@@ -5,7 +5,7 @@ use Prim.Native.Nat.{ℕ, _+_, _-_, _*_, _^_, _≤_, _<_, min}
 use Rattle.tables.specs.Notation.{if_then_else_, _==_, _‼_}
 use Rattle.bandwidth_model.specs.Rules.{Setup, weightOf, sharedAtOf, isHolder, isSharer, Holder, nobody, held}
 use Rattle.bandwidth_model.specs.View.{Ranges}
-use Rattle.bandwidth_model.specs.Calls.{Grant, grantSum}
+use Rattle.bandwidth_model.specs.Calls.{Grant, nothing, grantSum}
 use Rattle.bandwidth_model.specs.Model.{fromReservation, spend}
 use Rattle.bandwidth_grants.specs.View.{usage}
 
@@ -22,7 +22,7 @@ poolIn su reserved row pool at rest =
 
 -- what a holder is granted
 unfoldable pub grantIn : Setup → ℕ → List ℕ → List ℕ → ℕ → Holder → ℕ → Grant
-grantIn su reserved row used pool nobody bytes = record { reserved = 0; pool = 0 }
+grantIn su reserved row used pool nobody bytes = nothing
 grantIn su reserved row used pool (held at) bytes =
     let own = fromReservation su (usage row used pool) at bytes in
     record { reserved = own; pool = poolIn su reserved row pool at (bytes - own) }
