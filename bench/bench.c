@@ -6,8 +6,8 @@
  * plain.c and tuned.c are compiled by gcc and, with -DWITH_CLANG, by clang
  * too, both with -O3 for baseline x86-64; the better one counts and is named.
  * With -DWITH_BEFORE another build of the library takes part, whose functions
- * begin with before_cbqri_: that of an earlier commit, perhaps without the
- * device's request, or with requests that hand back one number, the sum.
+ * begin with before_cbqri_: that of an earlier commit with the same interface,
+ * perhaps without the device's request.
  * Each number is the least of several repetitions, in which the versions take
  * turns; a ratio is that of the two numbers printed beside it. All versions
  * must give the same answers and leave the same bytes.
@@ -70,33 +70,29 @@ enum { VERSIONS = sizeof versions / sizeof versions[0] };
 static struct state first_end;
 
 /* The measured calls: n of each, with everything they answer added up, refusals
- * from bit 40; and once more, apart, the bytes that came from the pool. */
-
-static uint64_t from_pool;
+ * from bit 40, and pool bytes twice, so that one amount told as the other shows. */
 
 static uint64_t run_request(const struct interface *f, uint64_t n)
 {
-    uint64_t sum = 0, reserved, pool = 0;
+    uint64_t sum = 0, reserved, pool;
     for (uint64_t i = 0; i < n; i++) {
         const struct arguments *a = &list[i % CALLS];
         sum += f->bandwidth_request(BANDWIDTH_OF(&now.bandwidth), a->rcid, a->mcid, a->at,
                                     a->which, a->bytes, &reserved, &pool) << 40;
-        sum += reserved + pool;
-        from_pool += pool;
+        sum += reserved + 2 * pool;
     }
     return sum;
 }
 
 static uint64_t run_device_request(const struct interface *f, uint64_t n)
 {
-    uint64_t sum = 0, reserved, pool = 0;
+    uint64_t sum = 0, reserved, pool;
     for (uint64_t i = 0; i < n; i++) {
         const struct arguments *a = &list[i % CALLS];
         sum += f->bandwidth_device_request(BANDWIDTH_OF(&now.bandwidth), CBQRI_IOMMU_DIRECTORY,
                                            a->ta, a->at, a->which, a->bytes, &reserved,
                                            &pool) << 40;
-        sum += reserved + pool;
-        from_pool += pool;
+        sum += reserved + 2 * pool;
     }
     return sum;
 }
@@ -222,7 +218,6 @@ static double time_calls(const struct measured *m, const struct interface *f, ui
     now = start;
     m->run(f, 1 + n / 20); /* warming up */
     now = start;
-    from_pool = 0;
     double from = seconds();
     *sum = m->run(f, n);
     return (seconds() - from) * 1e9 / (double)n;
@@ -254,17 +249,13 @@ struct row {
     int best[GROUPS];
 };
 
-/* An earlier commit's library may not tell the pool's bytes apart. */
-static void check_same(uint64_t sum, int v, int first, const char *name)
+static void check_same(uint64_t sum, uint64_t *first_sum, int first, const char *name)
 {
-    static uint64_t first_sum, first_from_pool;
     if (first) {
-        first_sum = sum;
-        first_from_pool = from_pool;
+        *first_sum = sum;
         first_end = now;
     }
-    int other_pool = from_pool != first_from_pool && versions[v].group != BEFORE;
-    if (sum >> 40 || sum != first_sum || other_pool || memcmp(&now, &first_end, sizeof now)) {
+    if (sum >> 40 || sum != *first_sum || memcmp(&now, &first_end, sizeof now)) {
         printf("%s: answers differ or are refusals\n", name);
         exit(1);
     }
@@ -274,7 +265,7 @@ static double times[VERSIONS + 1][MAX_REPETITIONS]; /* the last is reading */
 
 static void take_times(const struct measured *m, int repetitions, double milliseconds)
 {
-    uint64_t n = calibrate(m, milliseconds), sum;
+    uint64_t n = calibrate(m, milliseconds), sum, first_sum = 0;
     for (int r = 0; r < repetitions; r++) {
         for (int turn = 0; turn < VERSIONS; turn++) {
             int v = (r + turn) % VERSIONS;
@@ -282,7 +273,7 @@ static void take_times(const struct measured *m, int repetitions, double millise
             if (!has_call(&versions[v].f, m))
                 continue;
             times[v][r] = time_calls(m, &versions[v].f, n, &sum);
-            check_same(sum, v, r == 0 && turn == 0, m->name);
+            check_same(sum, &first_sum, r == 0 && turn == 0, m->name);
         }
         times[VERSIONS][r] = time_reading(m->bandwidth, n);
     }
