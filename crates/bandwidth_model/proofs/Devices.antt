@@ -60,17 +60,17 @@ unfolding noteCall tallyCall
 device-requests = record {
   same = λ s mode word at kind bytes. same mode s word at kind bytes;
   ledger = λ l mode word at kind bytes a. refl;
-  tally = λ t mode word at kind bytes a. refl;
+  tally = λ l t mode word at kind bytes a. refl;
 }
 
 -- ---- a request of either kind
 
 pub request-is : (rcid mcid at kind bytes : ℕ) → Requests (request rcid mcid at kind bytes) 7 rcid mcid at kind bytes
 unfolding argumentChecks perform
-request-is rcid mcid at kind bytes = record { no-reset = tt; checks = λ su. refl; performs = λ s. refl }
+request-is rcid mcid at kind bytes = record { no-reset = tt; checks = λ su waiters. refl; performs = λ s. refl }
 
 -- a device's, by the identifiers that its word names and its refusal
 pub device-is : (mode word at kind bytes : ℕ) {ids : Identifiers} {n : ℕ} → ids ≡ identifiersIn mode word → n ≡ outOfRange mode
     → Requests (deviceRequest mode word at kind bytes) n (ids .rcid) (ids .mcid) at kind bytes
 unfolding argumentChecks perform
-device-is mode word at kind bytes e q = rw (e, q) (record { no-reset = tt; checks = λ su. refl; performs = λ s. refl })
+device-is mode word at kind bytes e q = rw (e, q) (record { no-reset = tt; checks = λ su waiters. refl; performs = λ s. refl })

@@ -1,7 +1,7 @@
 -- What is claimed of the capacity controller after any list of calls that an accepted reset opens, by the ledger.
 use Rattle.access.specs.Logic.{_≡_, Bool, ℕ}
 use Rattle.runs.specs.Runs.{Machine, stepOf, Always}
-use Rattle.runs.specs.Claims.{Book, whole, Reads, Counted, Lasting}
+use Rattle.runs.specs.Claims.{Book, whole, Reads, AllCounted, Lasting}
 use Rattle.access.specs.Access as access
 use Rattle.access.specs.Checks as checks
 use Rattle.access.specs.Pairs.{wordAt, knownAt}
@@ -60,5 +60,5 @@ pub record Claims : Type 0 where
   pub always : Always controller (book .keeper) Claim
 
 -- ---- counters: each holds its count, value and flag
-pub record Counting : Type 0 where
-  pub always : Always controller tally (Counted controller counter (λ s. s .monitor .counters))
+abbrev pub Counting : Type 0
+Counting = AllCounted controller book tally counter (λ s. s .monitor .counters)

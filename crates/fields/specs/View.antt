@@ -14,6 +14,7 @@ use Rattle.fields.specs.declared.CapacityCapabilities.{CapacityCapabilit
 use Rattle.fields.specs.declared.CounterSetting.{CounterSetting}
 use Rattle.fields.specs.declared.IommuQosid.{IommuQosid}
 use Rattle.fields.specs.declared.DcTa.{DcTa}
+use Rattle.fields.specs.declared.Waiter.{Waiter}
 
 -- there is one value for each field, and it fits
 abbrev pub InRange : List Place → List ℕ → Type 0
@@ -58,6 +59,9 @@ ofIommuQosid r = r .mcid ∷ r .rcid ∷ []
 
 abbrev pub ofDcTa : DcTa → List ℕ
 ofDcTa r = r .mcid ∷ r .rcid ∷ []
+
+abbrev pub ofWaiter : Waiter → List ℕ
+ofWaiter r = r .write ∷ r .at ∷ r .mcid ∷ r .need ∷ []
 
 -- with NA = 1 the AT and ATV fields are held as 0
 abbrev pub heldAllocCtl : ℕ → AllocCtl → AllocCtl

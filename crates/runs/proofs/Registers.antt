@@ -17,7 +17,7 @@ use Rattle.monitor.specs.Monitor.{monWord, monStatus}
 use Rattle.monitor.specs.Tally.{Tally}
 use Rattle.monitor.proofs.Control.{monWord-fields}
 use Rattle.monitor.proofs.Operations.{monStatus-lt}
-use Rattle.runs.specs.Runs.{Outcome, Event, after, noting, Keeper, Machine, stepOf, noteOf, noteAfter, Always}
+use Rattle.runs.specs.Runs.{Outcome, Event, after, noting, Keeper, TallyKeeper, Machine, stepOf, noteOf, noteAfter, Always}
 use Rattle.runs.specs.Claims.{Book, Part, Reads, Shows, Notes, controlAfter, notes, settings, Stands, Lasting, RegisterReads, AllRegisterReads}
 use Rattle.runs.proofs.Steps.{done-step, done-by}
 use Rattle.runs.proofs.Laws.{Accepts, Keeps, keeps-always, note-part}
@@ -147,15 +147,15 @@ pub record Noted {S U C A L X K : Type 0} (m : Machine S U C A) (q : Parts S U) 
   pub mon : q .registers s .monCtl ≡ n .monCtl
 
 -- the invariants of ledger and tally, and what they tell
-pub record Invariants {S U C A L X K : Type 0} (m : Machine S U C A) (q : Parts S U) (b : Book S U C A L X) (t : Keeper U C A (Tally U K)) (Inv : S → L → Type 0)
+pub record Invariants {S U C A L X K : Type 0} (m : Machine S U C A) (q : Parts S U) (b : Book S U C A L X) (t : TallyKeeper U C A L (Tally U K)) (Inv : S → L → Type 0)
     (Counts : S → Tally U K → Type 0) : Type 0 where
   pub inv : Keeps m (b .keeper) Inv
   pub first : (s : S) (u : U) → m .refusal s (m .reset u) ≡ 0 → Counts (m .perform s (m .reset u) .state) (t .start u)
-  pub next : (s : S) (l : L) (n : Tally U K) → Inv s l → Counts s n → (c : C) → Counts (m .perform s c .state) (t .noteCall n c (m .perform s c .answer))
+  pub next : (s : S) (l : L) (n : Tally U K) → Inv s l → Counts s n → (c : C) → Counts (m .perform s c .state) (t .noteCall l n c (m .perform s c .answer))
   pub agrees : (s : S) (l : L) → Inv s l → Agrees m q b s l
   pub shown : (s : S) (n : Tally U K) → Counts s n → q .registers s .monCtrVal ≡ n .shown
 
-module _ {S U C A L X K : Type 0} {m : Machine S U C A} {q : Parts S U} {b : Book S U C A L X} {t : Keeper U C A (Tally U K)} {Inv : S → L → Type 0}
+module _ {S U C A L X K : Type 0} {m : Machine S U C A} {q : Parts S U} {b : Book S U C A L X} {t : TallyKeeper U C A L (Tally U K)} {Inv : S → L → Type 0}
     {Counts : S → Tally U K → Type 0} (h : Registered m q) (k : Invariants m q b t Inv Counts) where
   noted-keeps : Keeps m (notes m b t) (Noted m q b Inv Counts)
   unfolding notes controlAfter
@@ -209,12 +209,11 @@ module _ {S U C A L X K : Type 0} {m : Machine S U C A} {q : Parts S U} {b : Boo
   register-reads = record {
     always = λ s u cs a. reads _ _ (noted-always s u cs a);
     ledger = λ s u cs. note-part (λ n. n .ledger) (noteOf m (notes m b t)) (noteOf m (b .keeper)) (note-both (λ n. n .ledger) (b .keeper) (λ n c a. refl)) _ (notes m b t .start u);
-    tally = λ s u cs. note-part (λ n. n .tally) (noteOf m (notes m b t)) (noteOf m t) (note-both (λ n. n .tally) t (λ n c a. refl)) _ (notes m b t .start u);
   }
 
   -- what holds of the state with ledger or tally
   pub ledger-always : (P : S → L → Type 0) → ((s : S) (l : L) → Inv s l → P s l) → Always m (b .keeper) P
   ledger-always P f s u cs a = rw (← register-reads .ledger s u cs) (f _ _ (noted-always s u cs a .inv))
 
-  pub tally-always : (P : S → Tally U K → Type 0) → ((s : S) (n : Tally U K) → Counts s n → P s n) → Always m t P
-  tally-always P f s u cs a = rw (← register-reads .tally s u cs) (f _ _ (noted-always s u cs a .counts))
+  pub tally-always : (P : S → Tally U K → Type 0) → ((s : S) (n : Tally U K) → Counts s n → P s n) → Always m (notes m b t) (λ s n. P s (n .tally))
+  tally-always P f s u cs a = f _ _ (noted-always s u cs a .counts)

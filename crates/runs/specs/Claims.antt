@@ -10,7 +10,7 @@ use Rattle.access.specs.Pairs.{Setting, ofPair, anyOf}
 use Rattle.allocation.specs.Allocation.{configLimit, readLimit, opOf, rcidOf, atOf, statusOf, allocWord, validOp, operationStatus}
 use Rattle.monitor.specs.Monitor as mon
 use Rattle.monitor.specs.Tally.{Counter, Tally}
-use Rattle.runs.specs.Runs.{Event, event, after, events, untouched, Keeper, Machine, stepOf, noteOf, noteAfter, Always}
+use Rattle.runs.specs.Runs.{Event, event, after, events, untouched, Keeper, TallyKeeper, Machine, stepOf, noteOf, noteAfter, Always}
 
 -- what the claims ask of a ledger of type L, with settings of type X
 pub record Book (S U C A L X : Type 0) : Type 0 where
@@ -91,12 +91,12 @@ controlAfter register word ctl other = ctl
 
 module _ {S U C A L X : Type 0} (m : Machine S U C A) (b : Book S U C A L X) where
   -- a control register holds the fields of the value written, the STATUS and BUSY 0
-  unfoldable pub notes : {K : Type 0} → Keeper U C A (Tally U K) → Keeper U C A (Notes L (Tally U K))
+  unfoldable pub notes : {K : Type 0} → TallyKeeper U C A L (Tally U K) → Keeper U C A (Notes L (Tally U K))
   notes t = record {
     start = λ u. record { ledger = b .keeper .start u; tally = t .start u; allocCtl = 0; monCtl = 0 };
     noteCall = λ n c a. record {
       ledger = b .keeper .noteCall (n .ledger) c a;
-      tally = t .noteCall (n .tally) c a;
+      tally = t .noteCall (n .ledger) (n .tally) c a;
       allocCtl = controlAfter access.allocCtl (λ v. allocWord (b .na (n .ledger)) v reg.idle (b .statusBy (n .ledger) v)) (n .allocCtl) (m .kindOf c);
       monCtl = controlAfter access.monCtl (λ v. mon.monWord (b .na (n .ledger)) v reg.idle (b .monStatusBy (n .ledger) v)) (n .monCtl) (m .kindOf c);
     };
@@ -162,11 +162,14 @@ module _ {S U C A L X : Type 0} (m : Machine S U C A) (b : Book S U C A L X) whe
         → unpack reg.monCtl x ≡ reg.idle ∷ b .monStatusBy (n .ledger) v ∷ mon.atvOf (b .na (n .ledger)) v ∷ mon.eventOf v ∷ mon.mcidOf v
         ∷ mon.atOf (b .na (n .ledger)) v ∷ mon.opOf v ∷ []
 
-  pub record AllRegisterReads {K : Type 0} (t : Keeper U C A (Tally U K)) : Type 0 where
+  pub record AllRegisterReads {K : Type 0} (t : TallyKeeper U C A L (Tally U K)) : Type 0 where
     pub always : Always m (notes t) RegisterReads
-    -- the notes' ledger is the ledger, and their tally the tally
+    -- the notes' ledger is the ledger
     pub ledger : (s : S) (u : U) (cs : List C) → noteAfter m (notes t) s u cs .ledger ≡ noteAfter m (b .keeper) s u cs
-    pub tally : (s : S) (u : U) (cs : List C) → noteAfter m (notes t) s u cs .tally ≡ noteAfter m t s u cs
+
+  -- the counters, by the tally of the notes
+  pub record AllCounted {K : Type 0} (t : TallyKeeper U C A L (Tally U K)) (r : Counter U K) (table : S → List ℕ) : Type 0 where
+    pub always : Always m (notes t) (λ s n. Counted m r table s (n .tally))
 
 -- ---- STATUS: each under its own condition and no other, where the events of a controller end at last
 pub record Statuses (last : ℕ) : Type 0 where

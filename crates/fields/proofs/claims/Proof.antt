@@ -21,6 +21,7 @@ packing = record {
   counterSetting = record { ordered = reg.counterSetting-ordered; names = refl };
   iommuQosid = record { ordered = reg.iommuQosid-ordered; names = refl };
   dcTa = record { ordered = reg.dcTa-ordered; names = refl };
+  waiter = record { ordered = reg.waiter-ordered; names = refl };
   allocCtl1 = λ w r u. cc (reg.allocCtl-kept-1 w);
   monCtl1 = λ w r u. cc (reg.monCtl-kept-1 w);
 }
