@@ -132,7 +132,7 @@ module _ {s : State} {t : Totals} (p : Passes s t) {rcid a from to : ℕ} (at by
       RowGiven (s .setup) (t .active) (part from (to - from) (s .usage .active)) (part from (to - from) (s .usage .used)) (s .usage .pool) a bytes left x sum gave
 
   pub request-fits : RowFits (s .setup) (t .active) (part from (to - from) (s .usage .active)) (part from (to - from) (s .usage .used)) (s .usage .pool) a bytes
-  request-fits = rw (p .totals .active) (row-fits (s .setup) (s .usage) (p .ranges) (active-facts p) (usage-formed p) w hr a bytes low)
+  request-fits = rw (p .totals .active) (row-fits (s .setup) (s .usage) (active-facts p) w hr a low (p .ranges) (usage-formed p) bytes)
 
   pub serve-row : (mcid kind : ℕ) {left counters : List ℕ} {x : Grant} {sum gave : ℕ} → Given left x sum gave
       → counters ≡ cond (countsRequest (getD (s .monitor .events) mcid 0) a kind)
@@ -145,8 +145,8 @@ module _ {s : State} {t : Totals} (p : Passes s t) {rcid a from to : ℕ} (at by
       }) ≡ requested s rcid mcid at kind bytes
   serve-row mcid kind {counters = counters} {x = x} {sum = sum} g c =
       let h = rw (p .totals .active) at g in
-      serve-steps s rcid mcid at kind bytes a x sum _ counters e (row-granted (s .setup) (s .usage) (p .ranges) (active-facts p) (usage-formed p) w hr a bytes low h) (h .sum-is)
-      (row-spent (s .setup) (s .usage) (p .ranges) (active-facts p) (usage-formed p) w hr a bytes low h) c
+      serve-steps s rcid mcid at kind bytes a x sum _ counters e (row-granted (s .setup) (s .usage) (active-facts p) w hr a low (p .ranges) (usage-formed p) bytes h) (h .sum-is)
+      (row-spent (s .setup) (s .usage) (active-facts p) w hr a low (p .ranges) (usage-formed p) bytes h) c
 
 -- ---- writes
 

@@ -23,7 +23,7 @@ ghost use Rattle.bandwidth_grants.specs.View.{usage, holderFrom, grantFr
 ghost use Rattle.bandwidth_grants.specs.Grants.{holderIn, Granted, Fits, RowFits, RowGiven};
 
 // The AT of the holder that a request is led to, if there is one.
-enum Holder {
+pub enum Holder {
     Nobody,
     Held(u64),
 }
@@ -42,7 +42,7 @@ fn shared_at(word: u64) -> u64
 }
 
 // The holder that an AT is led to, by its RCID's words: itself, or the one that it shares.
-fn holder_of(row: &[u32], at: u64) -> Holder
+pub fn holder_of(row: &[u32], at: u64) -> Holder
     ensures { λ r. ⌜ holderFrom r ≡ holderIn (now (row .entry)) at ⌝ }
 {
     let word = word32(row, at as usize) as u64;
@@ -57,7 +57,7 @@ fn holder_of(row: &[u32], at: u64) -> Holder
 }
 
 // What is left of the reservation of a holder with this word, up to `bytes`.
-fn from_reservation(setup: Setup, word: u64, used: u64, bytes: u64) -> u64
+pub fn from_reservation(setup: Setup, word: u64, used: u64, bytes: u64) -> u64
     requires { ⌜ Ranges (setupOf setup) ⌝ }
     ensures { λ r. ⌜ Small (min bytes (reserved word * setup .q - used)) bytes r ⌝ }
 {
@@ -107,7 +107,7 @@ fn grant_of(
 }
 
 // Adds a grant to the used bytes, and returns what the pool gave with it.
-fn spend(used: &mut [u32], pool: u64, holder: Holder, grant: Grant) -> u64
+pub fn spend(used: &mut [u32], pool: u64, holder: Holder, grant: Grant) -> u64
     requires { ⌜ Fits (now used) pool (holderFrom holder) (grantFrom grant) ⌝ }
     ensures { λ r. ⌜ ((row : List ℕ) → usage row (now (used .exit)) r ≡ spend (usage row (now (used .entry)) pool) (holderFrom holder) (grantFrom grant)) ⌝ }
 {

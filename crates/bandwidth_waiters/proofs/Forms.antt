@@ -1,0 +1,45 @@
+-- The words of waiters: the tests that check 3 makes of one are the definition's.
+use mathlib.Core.Path.{_≡_, sym, subst, _∙_}
+use mathlib.Core.Bool.{cond, _&&_, _||_}
+use mathlib.Core.List.{List}
+use Prim.Native.Nat.{ℕ, _/_, _%_, _^_}
+use native.Mathlib.Nat.{mod-eq-of-lt, mod-lt}
+use lib.Bits.{and-mask}
+use lib.Dec.{T, eqb, eqb→eq, leb, ltb, ltb→lt, lt→ltb}
+use lib.ListN.{getD}
+use lib.Pow.{pow-pos}
+use Rattle.fields.specs.Layout.{namedBits}
+use Rattle.fields.specs.Registers as reg
+use Rattle.fields.proofs.Laws.{pack-unpack}
+use Rattle.fields.proofs.Registers.{waiter-ordered}
+use Rattle.tables.specs.Below.{allBelow}
+use Rattle.tables.specs.View.{unionBelow}
+use Rattle.tables.proofs.Tests.{eqb-in, same-test}
+use Rattle.tables.proofs.Union.{none-bad, low-test}
+use Rattle.bandwidth_model.specs.Rules.{Setup}
+use Rattle.bandwidth_model.specs.Waiters.{needOf, waiterMcid, waiterAt, waiterOk}
+
+-- the layout names the low 44 bits
+waiter-kept : (w : ℕ) → namedBits reg.waiter w ≡ w % 2 ^ 44
+waiter-kept w = pack-unpack reg.waiter 44 w waiter-ordered ∙ and-mask w 44
+
+-- no bit above them
+high-test : (w : ℕ) → eqb (w / 2 ^ 44) 0 ≡ eqb w (namedBits reg.waiter w)
+high-test w =
+    low-test 44 w
+    ∙ same-test (ltb w (2 ^ 44)) (eqb w (namedBits reg.waiter w)) (λ t. eqb-in w (namedBits reg.waiter w) (sym (waiter-kept w ∙ mod-eq-of-lt (ltb→lt w (2 ^ 44) t))))
+    (λ t. subst (λ (x : ℕ). T (ltb x (2 ^ 44))) (sym (eqb→eq w (namedBits reg.waiter w) t ∙ waiter-kept w)) (lt→ltb (w % 2 ^ 44) (2 ^ 44) (mod-lt w (pow-pos 44))))
+
+-- a word, by its fields
+pub waiter-test : (su : Setup) (word : ℕ) {need mcid at : ℕ} → need ≡ needOf word → mcid ≡ waiterMcid word → at ≡ waiterAt word
+    → (eqb word 0 || (leb 1 need && ltb mcid (su .nm) && ltb at (su .na) && eqb (word / 2 ^ 44) 0)) ≡ waiterOk su word
+unfolding waiterOk
+waiter-test su word e f g = rw (e, f, g, high-test word)
+
+-- all words, by a union of what is bad in each
+unfoldable pub badAt : Setup → List ℕ → ℕ → ℕ
+badAt su t i = cond (waiterOk su (getD t i 0)) 0 1
+
+pub waiters-test : (su : Setup) (t : List ℕ) (n : ℕ) → eqb (unionBelow n (badAt su t)) 0 ≡ allBelow n (λ i. waiterOk su (getD t i 0))
+unfolding badAt
+waiters-test su t n = none-bad n 0 (λ i. waiterOk su (getD t i 0))
