@@ -2,4 +2,5 @@
 pub mod Forms
 pub mod Steps
 pub mod Turns
-pub mod Service
+pub mod Weights
+pub mod Windows

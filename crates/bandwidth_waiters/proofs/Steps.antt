@@ -1,15 +1,13 @@
 -- Steps of the proofs: each from what its own steps give, so that a step that gives another number is refused as that.
-use mathlib.Core.Path.{_≡_, refl, sym, ap, _∙_}
+use mathlib.Core.Path.{_≡_, refl, ap, _∙_}
 use mathlib.Core.Bool.{cond}
 use mathlib.Core.List.{List}
-use Prim.Native.Nat.{ℕ, _+_, _-_, _*_, _/_, _^_, _≤_, _<_, min}
-use native.Mathlib.Nat.{min-eq-left, min-le-left, min-le-right, mul-le-mul}
+use Prim.Native.Nat.{ℕ, _+_, _-_, _*_, _/_, _^_, _<_, min}
+use native.Mathlib.Nat.{min-le-left, min-le-right, mul-le-mul}
 use native.Mathlib.Omega.{arith}
 use lib.Dec.{eqb}
-use lib.ListN.{getD}
 use Rattle.tables.specs.View.{Small}
 use Rattle.bandwidth_model.specs.Rules.{Setup, weightOf, reserved, Holder, nobody, held}
-use Rattle.bandwidth_model.specs.View.{Ranges}
 use Rattle.bandwidth_model.specs.Calls.{Grant, grantSum}
 use Rattle.bandwidth_model.specs.Waiters.{heldWord, ownPart, shareWeight, poolPart, servedOf}
 use Rattle.bandwidth_model.specs.Model.{spend}

@@ -12,9 +12,9 @@ use Rattle.tables.proofs.Parts.{part-at}
 use Rattle.access.specs.Pairs.{wordAt}
 use Rattle.monitor.specs.Bytes.{countsRequest, added}
 use Rattle.bandwidth_model.specs.Rules.{Setup, Holder, holderOf}
-use Rattle.bandwidth_model.specs.Calls.{Grant, grantSum}
+use Rattle.bandwidth_model.specs.Calls.{Grant}
 use Rattle.bandwidth_model.specs.Waiters.{needOf, waiterMcid, waiterAt, waiterKind, servedWord, heldWord, servedOf}
-use Rattle.bandwidth_model.specs.Model.{Usage, spend}
+use Rattle.bandwidth_model.specs.Model.{Usage}
 use Rattle.bandwidth_model.proofs.Settings.{TableFacts, table-facts}
 use Rattle.bandwidth_settings.proofs.Rows.{row-word}
 use Rattle.bandwidth_grants.specs.View.{usage}

@@ -9,7 +9,7 @@ use Rattle.monitor.specs.Bytes.{countsRequest, added}
 use Rattle.bandwidth_model.specs.Rules.{Setup, pairs, Holder, holderOf}
 use Rattle.bandwidth_model.specs.View.{Ranges}
 use Rattle.bandwidth_model.specs.Calls.{Grant, grantSum}
-use Rattle.bandwidth_model.specs.Waiters.{needOf, waiterMcid, waiterAt, waiterKind, servedWord, heldWord, servedOf}
+use Rattle.bandwidth_model.specs.Waiters.{needOf, waiterMcid, waiterAt, waiterKind, servedWord, heldWord, servedOf, weightAt}
 use Rattle.bandwidth_model.specs.Model.{Usage, tableOk, waitersOk, spend}
 use Rattle.bandwidth_grants.specs.View.{usage}
 
@@ -22,6 +22,10 @@ pub record Tables : Type 0 where
 
 abbrev pub tables : List ℕ → ℕ → List ℕ → List ℕ → Tables
 tables used pool counters waiters = record { used = used; pool = pool; counters = counters; waiters = waiters }
+
+-- the weight of an RCID's waiter, 0 where none waits
+unfoldable pub weightIn : Setup → List ℕ → List ℕ → ℕ → ℕ
+weightIn su active waiters rcid = if waiters ‼ rcid == 0 then 0 else weightAt su active waiters rcid
 
 -- the settings in force and the counter settings, the bytes of the pool and the sum of the weights
 module _ (su : Setup) (active events : List ℕ) (size weights : ℕ) where

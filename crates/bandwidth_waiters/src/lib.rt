@@ -1,4 +1,5 @@
 // Requests that wait: the words of waiters, and what a waiter is served by the words of its RCID as a window opens.
+mod service;
 mod words;
 
 use bandwidth_grants::Given;
@@ -9,6 +10,8 @@ use bandwidth_grants::holder_of;
 use bandwidth_grants::spend;
 use bandwidth_setup::Setup;
 use fields::field;
+pub use service::serve_all;
+pub use service::weights_of;
 use tables::least;
 use tables::pick;
 use tables::word32;

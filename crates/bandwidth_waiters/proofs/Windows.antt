@@ -1,31 +1,31 @@
 -- The turns of all RCIDs are the model's window end, and each finds its row ready.
-use mathlib.Core.Path.{_≡_, refl, sym, ap, subst, _∙_}
-use mathlib.Core.Bool.{Bool, cond, _&&_}
+use mathlib.Core.Path.{_≡_, refl, sym, ap, _∙_}
+use mathlib.Core.Bool.{cond}
 use mathlib.Core.List.{List}
 use Prim.Native.Nat.{ℕ, zero, suc, _+_, _-_, _*_, _/_, _≤_, _<_}
 use native.Mathlib.Nat.{min-le-left, suc-mul, mul-le-mul, mul-le-mul-right}
+use native.Mathlib.Numerals.{add-one}
 use native.Mathlib.Omega.{arith}
-use lib.Dec.{T, eqb, eqb→eq, leb, ltb, ltb→lt}
-use lib.ListN.{length, getD, set, replicate, length-set, length-replicate}
+use lib.Dec.{eqb, eqb→eq}
+use lib.ListN.{length, getD, replicate, length-set, length-replicate}
 use lib.Seq.{getD-set-other}
-use Rattle.fields.specs.Layout.{namedBits}
 use Rattle.fields.specs.Registers as reg
-use Rattle.fields.proofs.Laws.{get-lt, get-zero}
+use Rattle.fields.proofs.Laws.{get-lt}
 use Rattle.tables.specs.Parts.{RowAt}
-use Rattle.tables.proofs.Tests.{cases, and-l, and-r, or-else, cond-no, neqb, neqb-in}
-use Rattle.tables.proofs.Laws.{all-at, getD-zeros}
+use Rattle.tables.proofs.Tests.{cases, neqb}
+use Rattle.tables.proofs.Laws.{getD-zeros}
 use Rattle.access.specs.Pairs.{pair}
 use Rattle.monitor.specs.Monitor.{Monitor, counted}
 use Rattle.bandwidth_model.specs.Rules.{Setup, pairs, Holder, nobody, held, holderOf, total, poolOf}
 use Rattle.bandwidth_model.specs.Calls.{Grant}
-use Rattle.bandwidth_model.specs.Waiters.{needOf, waiterMcid, waiterAt, waiterOk, needAt, heldWord, servedOf, ownPart, shareWeight, poolPart, waiterHolder, weightsBelow, servedAt, waitersServed, overWaiters}
-use Rattle.bandwidth_model.specs.Model.{Usage, waitersOk, spend, opened, usageServed, monitorServed}
-use Rattle.bandwidth_model.proofs.Settings.{TableFacts, table-facts}
+use Rattle.bandwidth_model.specs.Waiters.{needOf, waiterAt, needAt, heldWord, servedOf, ownPart, shareWeight, poolPart, waiterHolder, weightsBelow, servedAt, waitersServed, overWaiters}
+use Rattle.bandwidth_model.specs.Model.{Usage, spend, opened, usageServed, monitorServed}
+use Rattle.bandwidth_model.proofs.Settings.{table-facts}
 use Rattle.bandwidth_model.proofs.Waiters.{over-none, over-one, served-events}
 use Rattle.bandwidth_grants.specs.View.{usage}
 use Rattle.bandwidth_grants.proofs.Rows.{Led, none, one, leads}
 use Rattle.bandwidth_waiters.specs.Turns.{Tables, tables, servedTurn, turn, turns, Opens, Ready}
-use Rattle.bandwidth_waiters.proofs.Turns.{turn-none}
+use Rattle.bandwidth_waiters.proofs.Weights.{at-low}
 
 -- where the words of an RCID stand
 row-is : {su : Setup} {active waiters : List ℕ} → Opens su active waiters → (rcid : ℕ) → rcid < su .nr → RowAt (su .nr) (su .na) rcid (rcid * su .na) (rcid * su .na + su .na)
@@ -69,17 +69,6 @@ unfolding servedOf poolPart
 part-low su size weights word need = omega (arith, min-le-left (need - ownPart su word need) (size * shareWeight su word need / weights))
 
 module _ {su : Setup} {active waiters : List ℕ} (o : Opens su active waiters) (m : Monitor) where
-  at-low : (rcid : ℕ) → rcid < su .nr → waiterAt (getD waiters rcid 0) < su .na
-  unfolding waitersOk waiterOk waiterAt
-  at-low rcid l =
-      let word = getD waiters rcid 0 in
-      let named = leb 1 (needOf word) && ltb (waiterMcid word) (su .nm) in
-      let low = ltb (waiterAt word) (su .na) in
-      let kept = eqb word (namedBits reg.waiter word) in
-      or-else (eqb word 0) (named && low && kept) (all-at (su .nr) (λ r. waiterOk su (getD waiters r 0)) (o .waiters-ok) rcid l)
-      (λ z. rw (eqb→eq word 0 z) (omega (arith, get-zero reg.waiterAt, o .ranges .na-low)))
-      (λ t. ltb→lt (waiterAt word) (su .na) (and-r named low (and-l (named && low) kept t)))
-
   abbrev start : Tables
   start = tables (replicate (pairs su) 0) 0 (m .counters) waiters
 
@@ -148,7 +137,7 @@ module _ {su : Setup} {active waiters : List ℕ} (o : Opens su active waiters) 
           counters-are = rw (over-one _ waiters m n z, ← w .counters-are, served-events su active waiters m n) refl;
           waiters-are = rw (w .waiters-are) (sym (over-one _ waiters waiters n z));
           found = λ i b. getD-set-other (y .waiters) n i _ 0 (λ (e : i ≡ n). omega arith) ∙ w .found i (omega arith);
-          unused = λ i b. spend-past active (y .used) (y .pool) (su .na) n g (leads su (usage active (y .used) (y .pool)) t (row-is o n l) l (waiterAt word) (at-low n l)) i b
+          unused = λ i b. spend-past active (y .used) (y .pool) (su .na) n g (leads su (usage active (y .used) (y .pool)) t (row-is o n l) l (waiterAt word) (at-low o n l)) i b
               ∙ w .unused i (omega (arith, suc-mul n (su .na)));
           used-long = spend-long active (y .used) (y .pool) holder g ∙ w .used-long;
           pool-low = omega (arith, w .pool-low, spend-pool active (y .used) (y .pool) holder g, pool-small);
@@ -172,7 +161,7 @@ module _ {su : Setup} {active waiters : List ℕ} (o : Opens su active waiters) 
       active-long = o .active-long;
       active-ok = o .active-ok;
       rcid-low = l;
-      at-low = rw (w .found n (omega arith)) (at-low n l);
+      at-low = rw (w .found n (omega arith)) (at-low o n l);
       used-long = w .used-long;
       unused = w .unused;
       pool-low = omega (arith, w .pool-low, o .ranges .nr-high);
@@ -183,3 +172,31 @@ module _ {su : Setup} {active waiters : List ℕ} (o : Opens su active waiters) 
   unfolding turns
   went zero l = went-none
   went (suc n) l = went-next n _ (went n (omega arith)) (omega arith)
+
+  -- where none waits there is nothing to do
+  pub went-still : (n : ℕ) → n ≤ su .nr → ((i : ℕ) → i < n → getD waiters i 0 ≡ 0) → Went n start
+  went-still zero l z = went-none
+  went-still (suc n) l z = went-past n start (went-still n (omega arith) (λ i b. z i (omega arith))) (z n (omega arith))
+
+-- ---- the turns as the code makes them
+
+module _ {su : Setup} {active waiters : List ℕ} (o : Opens su active waiters) (used counters events : List ℕ) {size weights : ℕ} (u : used ≡ replicate (pairs su) 0)
+    (s : size ≡ poolOf su active) (w : weights ≡ weightsBelow su active waiters (su .nr)) where
+  abbrev after : ℕ → Tables
+  after n = turns su active events size weights (tables used 0 counters waiters) n
+
+  -- mon_ctl and mon_ctr_val do not matter
+  abbrev monitor : Monitor
+  monitor = record { ctl = 0; value = 0; counters = counters; events = events }
+
+  pub turns-ready : (n : ℕ) → n < su .nr → Ready su active size (after n) n
+  turns-ready n l = rw (u, s, w) (went-ready o monitor n _ (went o monitor n (omega arith)) l)
+
+pub turns-none : (su : Setup) (active events : List ℕ) (size weights : ℕ) (x : Tables) → x ≡ turns su active events size weights x 0
+unfolding turns
+turns-none su active events size weights x = refl
+
+pub turns-next : (su : Setup) (active events : List ℕ) (size weights : ℕ) (x : Tables) (n : ℕ) {y z : Tables} → y ≡ turns su active events size weights x n
+    → z ≡ turn su active events size weights y n → z ≡ turns su active events size weights x (n + 1)
+unfolding turns
+turns-next su active events size weights x n e f = rw (f, e, add-one) refl
