@@ -19,6 +19,7 @@ use Rattle.monitor.specs.Bytes.{lastEvent}
 use Rattle.bandwidth_model.specs.Rules.{Setup, pairs, rbwbOf, weightOf, sharedAtOf, useSharedOf, isHolder, reserved, total}
 use Rattle.bandwidth_model.specs.Model.{tableOk}
 use Rattle.bandwidth_model.specs.View.{Sized}
+use Rattle.bandwidth_model.specs.Waiters.{waiterOk}
 use Rattle.bandwidth_model.proofs.Words.{shared-0, blocks-0, shared-1, not-0, stored-fields-1, holder-in, holder-shared, not-holder-0}
 use Rattle.bandwidth_model.proofs.Settings.{View, unset, holds, follows, Viewed, OneWeight, TableFacts, table-ok, table-facts}
 use Rattle.bandwidth_wellformed.specs.Bits.{formAt, blocksAt, markAt, sharingBits, weightBits, rowRight, rightAt, overAt}
@@ -208,11 +209,11 @@ used-test q n active used =
 -- ---- all tables
 
 -- a part of a test that matters only where its first part holds
-guarded : (s u v k e : Bool) → (T s → u ≡ v) → (s && u && k && e) ≡ (s && v && k && e)
-guarded true u v k e h = rw (h tt)
-guarded false u v k e h = refl
+guarded : (s u v k e w : Bool) → (T s → u ≡ v) → (s && u && k && e && w) ≡ (s && v && k && e && w)
+guarded true u v k e w h = rw (h tt)
+guarded false u v k e w h = refl
 
-module _ (su : Setup) (active configured used counters events : List ℕ) (z : Sized su active configured used counters events) where
+module _ (su : Setup) (active configured used counters events waiters : List ℕ) (z : Sized su active configured used counters events waiters) where
   within : ℕ → Bool
   within i = leb (getD used i 0) (reserved (getD active i 0) * su .q)
 
@@ -223,25 +224,26 @@ module _ (su : Setup) (active configured used counters events : List ℕ) (z : S
       ∙ all-same (pairs su) _ within
       (λ i l. ap (λ (b : ℕ). leb (getD used i 0) (b * su .q)) (sym (blocks-reserved su active (z .active-long) k i l)))
 
-  pub tables-test : {s u k e : Bool} → s ≡ (tableOk su active && tableOk su configured)
+  pub tables-test : {s u k e w : Bool} → s ≡ (tableOk su active && tableOk su configured)
       → u ≡ allBelow (length used) (λ i. leb (getD used i 0) (rbwbOf (getD active i 0) * su .q))
       → k ≡ allBelow (length counters) (λ i. counterOk reg.bandwidthCounter reg.bandwidthCtr (su .w) (getD counters i 0))
       → e ≡ allBelow (length events) (λ i. settingOk (su .na) lastEvent (getD events i 0))
-      → (s && u && k && e) ≡ tablesOk su active configured used counters events
+      → w ≡ allBelow (length waiters) (λ i. waiterOk su (getD waiters i 0))
+      → (s && u && k && e && w) ≡ tablesOk su active configured used counters events waiters
   unfolding tablesOk within
-  tables-test {s} {u} {k} {e} es eu ek ee =
-      guarded s u (allBelow (pairs su) within) k e (λ t. eu ∙ used-reserved (and-l (tableOk su active) (tableOk su configured) (subst T es t)))
-      ∙ rw (es, ek, ee, z .counters-long, z .events-long)
+  tables-test {s} {u} {k} {e} {w} es eu ek ee ew =
+      guarded s u (allBelow (pairs su) within) k e w (λ t. eu ∙ used-reserved (and-l (tableOk su active) (tableOk su configured) (subst T es t)))
+      ∙ rw (es, ek, ee, ew, z .counters-long, z .events-long, z .waiters-long)
 
 -- ---- from the sums of all rows
 
-pub tables-by : (su : Setup) (active configured used counters events : List ℕ) {s : Sums} {k e a c : Bool} → SummedTables su active configured used counters events s k e
+pub tables-by : (su : Setup) (active configured used counters events waiters : List ℕ) {s : Sums} {k e w a c : Bool} → SummedTables su active configured used counters events waiters s k e w
     → a ≡ (eqb (s .active .form) 0 && s .active .rows && leb (s .active .blocks) (su .mrbwb))
     → c ≡ (eqb (s .configured .form) 0 && s .configured .rows && leb (s .configured .blocks) (su .mrbwb))
-    → TablesChecked su active configured used counters events
-    (record { ok = a && c && eqb (s .over) 0 && k && e; active = s .active .blocks; configured = s .configured .blocks })
+    → TablesChecked su active configured used counters events waiters
+    (record { ok = a && c && eqb (s .over) 0 && k && e && w; active = s .active .blocks; configured = s .configured .blocks })
 unfolding pairs
-tables-by su active configured used counters events {s} {k} {e} {a} {c} t ea ec =
+tables-by su active configured used counters events waiters {s} {k} {e} {w} {a} {c} t ea ec =
     let x = table-test su active (t .sized .active-long) (t .active-fits) (t .summed .active) ea in
     let y = table-test su configured (t .sized .configured-long) (t .configured-fits) (t .summed .configured) ec in
     let o : eqb (s .over) 0 ≡ allBelow (length used) (λ i. leb (getD used i 0) (rbwbOf (getD active i 0) * su .q)) =
@@ -249,7 +251,7 @@ tables-by su active configured used counters events {s} {k} {e} {a} {c} t ea ec 
     ∙ ap (λ (n : ℕ). allBelow n (λ i. leb (getD used i 0) (rbwbOf (getD active i 0) * su .q))) (sym (t .sized .used-long)) in
     let both : (a && c) ≡ (tableOk su active && tableOk su configured) = rw (x .0, y .0) refl in
     record {
-      ok = tables-test su active configured used counters events (t .sized) both o (t .counters-are) (t .events-are);
+      ok = tables-test su active configured used counters events waiters (t .sized) both o (t .counters-are) (t .events-are) (t .waiters-are);
       active = λ h. x .1 (search (and-l, and-r) depth 8);
       configured = λ h. y .1 (search (and-l, and-r) depth 8);
     }

@@ -13,22 +13,23 @@ use Rattle.monitor.specs.Monitor.{counterOk, settingOk}
 use Rattle.monitor.specs.Bytes.{lastEvent}
 use Rattle.bandwidth_model.specs.Rules.{Setup, pairs, reserved, total}
 use Rattle.bandwidth_model.specs.View.{Sized}
+use Rattle.bandwidth_model.specs.Waiters.{waiterOk}
 use Rattle.bandwidth_model.specs.Model.{tableOk}
 use Rattle.bandwidth_wellformed.specs.Bits.{formAt, blocksAt, rightAt, overAt, AtMost}
 use Rattle.bandwidth_wellformed.specs.declared.TablesOk.{TablesOk}
 use Rattle.bandwidth_wellformed.specs.declared.settings.TableSums.{TableSums}
 use Rattle.bandwidth_wellformed.specs.declared.settings.Sums.{Sums}
 
--- each settings table, used bytes, counters and counter settings are well formed
-unfoldable pub tablesOk : Setup → List ℕ → List ℕ → List ℕ → List ℕ → List ℕ → Bool
-tablesOk su active configured used counters events =
+-- each settings table, used bytes, counters, counter settings and waiters are well formed
+unfoldable pub tablesOk : Setup → List ℕ → List ℕ → List ℕ → List ℕ → List ℕ → List ℕ → Bool
+tablesOk su active configured used counters events waiters =
     tableOk su active && tableOk su configured && allBelow (pairs su) (λ i. leb (getD used i 0) (reserved (getD active i 0) * su .q))
     && allBelow (su .nm) (λ i. counterOk reg.bandwidthCounter reg.bandwidthCtr (su .w) (getD counters i 0))
-    && allBelow (su .nm) (λ i. settingOk (su .na) lastEvent (getD events i 0))
+    && allBelow (su .nm) (λ i. settingOk (su .na) lastEvent (getD events i 0)) && allBelow (su .nr) (λ i. waiterOk su (getD waiters i 0))
 
 -- whether the tables are well formed, and what each settings table then reserves
-pub record TablesChecked (su : Setup) (inForce stored used counters events : List ℕ) (r : TablesOk) : Type 0 where
-  pub ok : r .ok ≡ tablesOk su inForce stored used counters events
+pub record TablesChecked (su : Setup) (inForce stored used counters events waiters : List ℕ) (r : TablesOk) : Type 0 where
+  pub ok : r .ok ≡ tablesOk su inForce stored used counters events waiters
   pub active : T (r .ok) → r .active ≡ total inForce
   pub configured : T (r .ok) → r .configured ≡ total stored
 
@@ -86,11 +87,12 @@ pub record SumsFit (x y : Sums) : Type 0 where
   pub active : x .active .blocks + y .active .blocks < 2 ^ 32
   pub configured : x .configured .blocks + y .configured .blocks < 2 ^ 32
 
--- the sums of all rows, and whether the counters and the counter settings are well formed
-pub record SummedTables (su : Setup) (inForce stored used counters events : List ℕ) (sums : Sums) (countersOk eventsOk : Bool) : Type 0 where
-  pub sized : Sized su inForce stored used counters events
+-- the sums of all rows, and whether the counters, the counter settings and the waiters are well formed
+pub record SummedTables (su : Setup) (inForce stored used counters events waiters : List ℕ) (sums : Sums) (countersOk eventsOk waitersOk : Bool) : Type 0 where
+  pub sized : Sized su inForce stored used counters events waiters
   pub active-fits : (i : ℕ) → getD inForce i 0 < 4294967296
   pub configured-fits : (i : ℕ) → getD stored i 0 < 4294967296
   pub summed : Summed (su .na) (su .q) inForce stored used (su .nr) sums
   pub counters-are : countersOk ≡ allBelow (length counters) (λ i. counterOk reg.bandwidthCounter reg.bandwidthCtr (su .w) (getD counters i 0))
   pub events-are : eventsOk ≡ allBelow (length events) (λ i. settingOk (su .na) lastEvent (getD events i 0))
+  pub waiters-are : waitersOk ≡ allBelow (length waiters) (λ i. waiterOk su (getD waiters i 0))

@@ -5,6 +5,7 @@ mod settings;
 mod usage;
 
 use bandwidth_setup::Setup;
+use bandwidth_waiters::waiters_ok;
 use monitor::bandwidth_counters_ok;
 use monitor::events_ok;
 pub use parts::Span;
@@ -32,16 +33,22 @@ pub struct TablesOk {
     pub configured: u64,
 }
 
-// The same from the sums of all rows and the checks of counters and counter settings.
-pub fn tables_by(setup: Setup, sums: Sums, counters_ok: bool, events_ok: bool) -> TablesOk
-    ensures { λ r. ⌜ ((active configured used counters events : List ℕ) → SummedTables (setupOf setup) active configured used counters events sums «counters_ok» «events_ok» → TablesChecked (setupOf setup) active configured used counters events r) ⌝ }
+// The same from the sums of all rows and the checks of counters, counter settings and waiters.
+pub fn tables_by(
+    setup: Setup,
+    sums: Sums,
+    counters_ok: bool,
+    events_ok: bool,
+    waiters_ok: bool,
+) -> TablesOk
+    ensures { λ r. ⌜ ((active configured used counters events waiters : List ℕ) → SummedTables (setupOf setup) active configured used counters events waiters sums «counters_ok» «events_ok» «waiters_ok» → TablesChecked (setupOf setup) active configured used counters events waiters r) ⌝ }
 {
     let active = sums.active;
     let configured = sums.configured;
     let a = table_ok(active, setup.mrbwb);
     let c = table_ok(configured, setup.mrbwb);
     TablesOk {
-        ok: a & c & (sums.over == 0) & counters_ok & events_ok,
+        ok: a & c & (sums.over == 0) & counters_ok & events_ok & waiters_ok,
         active: active.blocks as u64,
         configured: configured.blocks as u64,
     }
@@ -55,9 +62,10 @@ pub fn tables_ok(
     used: &[u32],
     counters: &[u64],
     events: &[u16],
+    waiters: &[u64],
 ) -> TablesOk
-    requires { ⌜ Ranges (setupOf setup) × Sized (setupOf setup) (now active) (now configured) (now used) (now counters) (now events) ⌝ }
-    ensures { λ r. ⌜ TablesChecked (setupOf setup) (now (active .entry)) (now (configured .entry)) (now (used .entry)) (now (counters .entry)) (now (events .entry)) r ⌝ }
+    requires { ⌜ Ranges (setupOf setup) × Sized (setupOf setup) (now active) (now configured) (now used) (now counters) (now events) (now waiters) ⌝ }
+    ensures { λ r. ⌜ TablesChecked (setupOf setup) (now (active .entry)) (now (configured .entry)) (now (used .entry)) (now (counters .entry)) (now (events .entry)) (now (waiters .entry)) r ⌝ }
 {
     let sums = sum_tables(
         active,
@@ -69,5 +77,6 @@ pub fn tables_ok(
     );
     let k = bandwidth_counters_ok(counters, setup.w as u32);
     let e = events_ok(events, setup.na as u16, LAST_EVENT);
-    tables_by(setup, sums, k, e)
+    let w = waiters_ok(setup, waiters);
+    tables_by(setup, sums, k, e, w)
 }

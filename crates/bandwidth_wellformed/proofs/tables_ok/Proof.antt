@@ -10,7 +10,7 @@ use Rattle.bandwidth_wellformed.proofs.tables_ok.Tie as tie
 sum-tables-requires : tie.Need-sum-tables-requires
 unfolding pairs
 sum-tables-requires c κs =
-    let p = c .before .before .before .before .before .before .before .pre in
+    let p = c .before .before .before .before .before .before .before .before .pre in
     record {
       na-low = p .0 .na-low;
       na-high = p .0 .na-high;
@@ -24,21 +24,20 @@ sum-tables-requires c κs =
 
 returns : tie.Need-returns
 returns c =
-    let s = c .before .before .before .before .before in
-    let a = s .before .before .before .before .before .before in
-    c .tables-by .ensures _ _ _ _ _
+    let s = c .before .before .before .before .before .before in
+    let a = s .before .before .before .before .before .before .before in
+    c .tables-by .ensures _ _ _ _ _ _
     (record {
       sized = a .before .before .pre .1;
       active-fits = λ i. a .before .shared-slice-known .given i .fits;
       configured-fits = λ i. a .shared-slice-known2 .given i .fits;
       summed = s .sum-tables .ensures;
-      counters-are = c .before .before .before .bandwidth-counters-ok .ensures;
-      events-are = c .before .events-ok .ensures;
+      counters-are = c .before .before .before .before .bandwidth-counters-ok .ensures;
+      events-are = c .before .before .events-ok .ensures;
+      waiters-are = c .before .waiters-ok .ensures;
     })
 
 pub tables-ok-spec : {M : Type 1} → statement M
 tables-ok-spec =
     tie.close
-    (tie.spec (λ c. search needs) (λ c. search needs) sum-tables-requires (λ c. search needs) (λ c κs. search needs)
-    (λ c. omega (arith, c .before .before .before .before .before .before .before .before .before .before .before .pre .0 .na-high))
-    (λ c κs. c .before .before .before .before .before .before .before .before .before .before .before .pre .0 .na-high) (λ c κs. search needs) returns)
+    (tie.spec (λ c. search needs) (λ c. search needs) sum-tables-requires (λ c. search needs) (λ c κs. search needs) (λ c. omega (arith, c .before .before .before .before .before .before .before .before .before .before .before .before .pre .0 .na-high)) (λ c κs. c .before .before .before .before .before .before .before .before .before .before .before .before .pre .0 .na-high) (λ c κs. search needs) (λ c κs. search needs) returns)
