@@ -11,9 +11,9 @@ use lib.Seq.{getD-set-other}
 use Rattle.tables.proofs.Laws.{getD-zeros}
 use Rattle.tables.proofs.Tests.{cases, neqb}
 use Rattle.access.specs.Pairs.{pair, wordAt}
-use Rattle.bandwidth_model.specs.Rules.{Setup, pairs, reserved, weightOf, sharedAtOf, useSharedOf, isHolder, isSharer, Holder, nobody, held, holderOf, poolOf}
+use Rattle.bandwidth_model.specs.Rules.{Setup, pairs, weightOf, sharedAtOf, useSharedOf, isHolder, isSharer, Holder, nobody, held, holderOf, poolOf}
 use Rattle.bandwidth_model.specs.Calls.{grantSum}
-use Rattle.bandwidth_model.specs.Waiters.{waiterAt, needAt, heldWord, ownPart, shareWeight, poolPart, servedOf, overWaiters, waiterHolder, weightAt, weightsBelow, servedAt}
+use Rattle.bandwidth_model.specs.Waiters.{waiterAt, needAt, heldWord, ownPart, shareWeight, poolPart, servedOf, waiterHolder, weightAt, weightsBelow, servedAt}
 use Rattle.bandwidth_model.specs.Model.{Usage, opened, spend, usageServed}
 use Rattle.bandwidth_model.specs.Ledger.{Window, openWindow, noteGrant, windowServed}
 use Rattle.bandwidth_model.specs.View.{Ranges}

@@ -1,9 +1,9 @@
 -- Laws of a walk over the waiters: one step of it, and what it keeps.
 use mathlib.Core.Path.{_≡_, refl, _∙_}
-use mathlib.Core.Bool.{Bool, not, cond}
+use mathlib.Core.Bool.{cond}
 use mathlib.Core.List.{List}
 use Prim.Native.Nat.{ℕ, zero, suc}
-use lib.Dec.{T, eqb, eqb→eq}
+use lib.Dec.{eqb, eqb→eq}
 use lib.ListN.{getD}
 use Rattle.tables.proofs.Tests.{cases, cond-yes, cond-no, eqb-in, neqb, neqb-in}
 use Rattle.monitor.specs.Monitor.{Monitor, counted}
