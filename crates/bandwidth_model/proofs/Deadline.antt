@@ -165,11 +165,11 @@ module _ (u : Setup) (rcid at r : ℕ) (low : rcid < u .nr) where
 over-enough : (n d k : ℕ) → 0 < d → over n d ≤ k → n ≤ k * d
 unfolding over
 over-enough n d k h l =
-    let q = (n + (d - 1)) / d in
-    let b : n + (d - 1) < suc q * d = div-lt-iff-lt-mul h .0 (lt-suc-self q) in
+    let q = over n d in
+    let b = div-lt-iff-lt-mul h .0 (lt-suc-self q) in
     let e : suc q * d ≡ q * d + d = omega arith in
     let m : q * d ≤ k * d = mul-le-mul l (le-refl d) in
-    omega arith
+    omega (arith, b)
 
 module _ (x : State) (l : Ledger) (i : Inv x l) (between : List Call) (rcid mcid at kind n r : ℕ) (w : Waits x l between rcid mcid at kind n r) where
   abbrev call : Call

@@ -23,13 +23,13 @@ known-rcid su rcid mcid n t e =
 module _ (s : State) where
   pub request-passed : (rcid mcid at kind bytes : ℕ) → refusal s (request rcid mcid at kind bytes) ≡ 0 → rcid < s .setup .nr
   unfolding argumentChecks
-  request-passed rcid mcid at kind bytes e = known-rcid (s .setup) rcid mcid 7 tt (passed-own checking s (request rcid mcid at kind bytes) tt e)
+  request-passed rcid mcid at kind bytes e = known-rcid (s .setup) rcid _ 7 tt (passed-own checking s (request rcid mcid at kind bytes) tt e)
 
   pub device-passed : (mode word at kind bytes : ℕ) → refusal s (deviceRequest mode word at kind bytes) ≡ 0 → identifiersIn mode word .rcid < s .setup .nr
   unfolding argumentChecks
   device-passed mode word at kind bytes e =
       let ids = identifiersIn mode word in
-      known-rcid (s .setup) (ids .rcid) (ids .mcid) (outOfRange mode) (out-of-range-by mode (λ n. T (without 0 (identifierChecks (s .setup) 0 0 n))) tt tt)
+      known-rcid (s .setup) (ids .rcid) _ (outOfRange mode) (out-of-range-by mode (λ n. T (without 0 (identifierChecks (s .setup) 0 0 n))) tt tt)
       (passed-own checking s (deviceRequest mode word at kind bytes) tt e)
 
 -- a request that is put to wait has passed 7, 10 and 11
@@ -42,12 +42,11 @@ pub record Put (s : State) (rcid mcid bytes : ℕ) : Type 0 where
 pub wait-passed : (s : State) (rcid mcid at kind bytes : ℕ) → refusal s (wait rcid mcid at kind bytes) ≡ 0 → Put s rcid mcid bytes
 unfolding argumentChecks
 wait-passed s rcid mcid at kind bytes e =
-    let unknown = leb (s .setup .nr) rcid in
-    let unlisted = leb (s .setup .nm) mcid in
+    let word = getD (s .waiters) rcid 0 in
     let f = none-holds 0 (waitChecks (s .setup) (s .waiters) rcid mcid bytes) 0 tt (passed-own checking s (wait rcid mcid at kind bytes) tt e) .0 in
     record {
-      rcid-low = nleb→lt (s .setup .nr) rcid (nor-l unknown unlisted (f .0));
-      mcid-low = nleb→lt (s .setup .nm) mcid (nor-r unknown unlisted (f .0));
-      free = eqb→eq (getD (s .waiters) rcid 0) 0 (not-not (eqb (getD (s .waiters) rcid 0) 0) (f .1 .0));
-      asks = neqb bytes 0 (f .1 .1 .0);
+      rcid-low = nleb→lt (s .setup .nr) rcid (nor-l (leb (s .setup .nr) rcid) (leb (s .setup .nm) mcid) (search f));
+      mcid-low = nleb→lt (s .setup .nm) mcid (nor-r (leb (s .setup .nr) rcid) (leb (s .setup .nm) mcid) (search f));
+      free = eqb→eq word 0 (not-not (eqb word 0) (search f));
+      asks = neqb bytes 0 (search f);
     }

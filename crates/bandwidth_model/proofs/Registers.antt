@@ -44,7 +44,7 @@ parts = record {
 
 module _ (s : State) where
   alloc-ctl : (c : Call) → perform s c .state .alloc .ctl ≡ controlAfter access.allocCtl (λ v. allocWord (s .setup .na) v 0 (statusIn parts s v)) (s .alloc .ctl) (kindOf c)
-  unfolding controlAfter afterReset writeAlloc writeBw
+  unfolding controlAfter perform afterReset writeAlloc writeBw
   alloc-ctl =
       let word : ℕ → ℕ = λ v. allocWord (s .setup .na) v 0 (statusIn parts s v) in
       call-by s (λ k s′. s′ .alloc .ctl ≡ controlAfter access.allocCtl word (s .alloc .ctl) k) (λ su. refl)
@@ -52,7 +52,7 @@ module _ (s : State) where
       (λ s′ k. ap (λ (a : Allocation). a .ctl) (k .alloc))
 
   mon-ctl : (c : Call) → perform s c .state .monitor .ctl ≡ controlAfter access.monCtl (λ v. monWord (s .setup .na) v 0 (monStatusIn parts s v)) (s .monitor .ctl) (kindOf c)
-  unfolding controlAfter afterReset cleared writeMon
+  unfolding controlAfter perform afterReset cleared writeMon
   mon-ctl =
       let word : ℕ → ℕ = λ v. monWord (s .setup .na) v 0 (monStatusIn parts s v) in
       call-by s (λ k s′. s′ .monitor .ctl ≡ controlAfter access.monCtl word (s .monitor .ctl) k) (λ su. refl)

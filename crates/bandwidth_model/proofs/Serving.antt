@@ -9,7 +9,7 @@ use lib.Dec.{T, eqb, eqb→eq}
 use lib.ListN.{getD, set}
 use lib.Seq.{getD-set-other}
 use Rattle.tables.proofs.Laws.{getD-zeros}
-use Rattle.tables.proofs.Tests.{cases, neqb}
+use Rattle.tables.proofs.Tests.{cases, neqb, cond-same}
 use Rattle.access.specs.Pairs.{pair, wordAt}
 use Rattle.bandwidth_model.specs.Rules.{Setup, pairs, weightOf, sharedAtOf, useSharedOf, isHolder, isSharer, Holder, nobody, held, holderOf, poolOf}
 use Rattle.bandwidth_model.specs.Calls.{grantSum}
@@ -90,7 +90,7 @@ module _ (su : Setup) (pool all word need : ℕ) where
   pool-none : weightOf word ≡ 0 → poolPart su pool all word need ≡ 0
   unfolding shareWeight
   pool-none e =
-      let z : shareWeight su word need ≡ 0 = cases (λ b. cond b 0 (weightOf word) ≡ 0) (eqb (need - ownPart su word need) 0) (λ t. refl) (λ t. e) in
+      let z : shareWeight su word need ≡ 0 = rw e (simp cond-same refl) in
       let x : pool * shareWeight su word need ≡ 0 = ap (λ (k : ℕ). pool * k) z ∙ mul-zero pool in
       let q : pool * shareWeight su word need / all ≡ 0 = ap (λ (k : ℕ). k / all) x ∙ zero-div all in
       omega (arith, pool-share)

@@ -85,4 +85,4 @@ pub monitor-served : (su : Setup) (table waiters : List ℕ) (m : Monitor) → s
 unfolding monitorServed
 monitor-served su table waiters m h k =
     over-keeps _ waiters m (λ n x. MonitorGood su x) k (λ n x z g. g)
-    (λ n x d g. count-good su x h g (waiterMcid (getD waiters n 0)) (waiterAt (getD waiters n 0)) (waiterKind (getD waiters n 0)) (grantSum (servedAt su table waiters n)))
+    (λ n x d g. count-good su x h g (waiterMcid (getD waiters n 0)) (waiterAt (getD waiters n 0)) (waiterKind (getD waiters n 0)) _)
