@@ -1,10 +1,10 @@
 -- The words of waiters: their fields, and that they stay words that a call stores.
 use mathlib.Core.Path.{_≡_, sym, ap, _∙_}
-use mathlib.Core.Bool.{cond, _&&_, _||_}
+use mathlib.Core.Bool.{cond}
 use mathlib.Core.List.{List, [], _∷_}
 use Prim.Native.Nat.{ℕ, _-_, _^_, _≤_, _<_, min}
 use native.Mathlib.Omega.{arith}
-use lib.Dec.{T, leb, ltb, eqb, eqb→eq, ltb→lt, lt→ltb, le→leb}
+use lib.Dec.{T, eqb, eqb→eq, ltb→lt, lt→ltb, le→leb}
 use lib.ListN.{length, getD, set, replicate, length-set, length-replicate}
 use Rattle.fields.specs.Layout.{pack, unpack, namedBits}
 use Rattle.fields.specs.Registers as reg
@@ -73,18 +73,12 @@ module _ (need mcid at write : ℕ) (n : need < 2 ^ 32) (m : mcid < 256) (a : at
   word-ok : (su : Setup) → mcid < su .nm → at < su .na → T (waiterOk su (waiterWord need mcid at write))
   unfolding waiterWord waiterOk
   word-ok su hm ha =
-      cases (λ b. T (eqb (cond b 0 word) 0 || (leb 1 (needOf (cond b 0 word)) && ltb (waiterMcid (cond b 0 word)) (su .nm) && ltb (waiterAt (cond b 0 word)) (su .na) && eqb (cond b 0 word) (namedBits reg.waiter (cond b 0 word)))))
-      (eqb need 0) (λ t. tt)
-      (λ t. let e = leb 1 (needOf word) in
-      let f = ltb (waiterMcid word) (su .nm) in
-      let g = ltb (waiterAt word) (su .na) in
-      let h = eqb word (namedBits reg.waiter word) in
-      or-r (eqb word 0) (e && f && g && h)
-      (and-in (e && f && g) h
-      (and-in (e && f) g
-      (and-in e f (le→leb 1 (needOf word) (rw packed-need (positive need (neqb need 0 t)))) (lt→ltb (waiterMcid word) (su .nm) (rw packed-mcid hm)))
-      (lt→ltb (waiterAt word) (su .na) (rw packed-at ha)))
-      (eqb-in word (namedBits reg.waiter word) (pack-kept reg.waiter 44 (write ∷ at ∷ mcid ∷ need ∷ []) waiter-ordered (k, (a, (m, (n, tt))))))))
+      cases (λ b. T (waiterOk su (cond b 0 word))) (eqb need 0) (λ t. tt)
+      (λ t. let n-ok = le→leb 1 (needOf word) (rw packed-need (positive need (neqb need 0 t))) in
+      let m-ok = lt→ltb (waiterMcid word) (su .nm) (rw packed-mcid hm) in
+      let a-ok = lt→ltb (waiterAt word) (su .na) (rw packed-at ha) in
+      let kept = eqb-in word (namedBits reg.waiter word) (pack-kept reg.waiter 44 (write ∷ at ∷ mcid ∷ need ∷ []) waiter-ordered (k, (a, (m, (n, tt))))) in
+      or-r (eqb word 0) _ (search (and-in, n-ok, m-ok, a-ok, kept) depth 5))
 
 -- ---- words that a call stores
 
@@ -93,23 +87,11 @@ module _ (su : Setup) (r : Ranges su) where
     -- its identifiers are known
     pub ok-at : waiterAt w < su .na
     unfolding waiterOk
-    ok-at =
-        let e = leb 1 (needOf w) in
-        let f = ltb (waiterMcid w) (su .nm) in
-        let g = ltb (waiterAt w) (su .na) in
-        let h = eqb w (namedBits reg.waiter w) in
-        or-else (eqb w 0) (e && f && g && h) t (λ z. rw (eqb→eq w 0 z, at-0) (omega (arith, r .na-low)))
-        (λ y. ltb→lt (waiterAt w) (su .na) (and-r (e && f) g (and-l (e && f && g) h y)))
+    ok-at = or-else (eqb w 0) _ t (λ z. rw (eqb→eq w 0 z, at-0) (omega (arith, r .na-low))) (λ y. search (ltb→lt, and-l, and-r) depth 6)
 
     ok-mcid : waiterMcid w < su .nm
     unfolding waiterOk
-    ok-mcid =
-        let e = leb 1 (needOf w) in
-        let f = ltb (waiterMcid w) (su .nm) in
-        let g = ltb (waiterAt w) (su .na) in
-        let h = eqb w (namedBits reg.waiter w) in
-        or-else (eqb w 0) (e && f && g && h) t (λ z. rw (eqb→eq w 0 z, mcid-0) (omega (arith, r .nm-low)))
-        (λ y. ltb→lt (waiterMcid w) (su .nm) (and-r e f (and-l (e && f) g (and-l (e && f && g) h y))))
+    ok-mcid = or-else (eqb w 0) _ t (λ z. rw (eqb→eq w 0 z, mcid-0) (omega (arith, r .nm-low))) (λ y. search (ltb→lt, and-l, and-r) depth 6)
 
     module _ (g : ℕ) where
       less-lt : needOf w - g < 2 ^ 32
