@@ -1,9 +1,9 @@
 -- Laws of a walk over the waiters: one step of it, and what it keeps.
 use mathlib.Core.Path.{_≡_, refl, _∙_}
-use mathlib.Core.Bool.{Bool, not, cond}
+use mathlib.Core.Bool.{cond}
 use mathlib.Core.List.{List}
 use Prim.Native.Nat.{ℕ, zero, suc}
-use lib.Dec.{T, eqb, eqb→eq}
+use lib.Dec.{eqb, eqb→eq}
 use lib.ListN.{getD}
 use Rattle.tables.proofs.Tests.{cases, cond-yes, cond-no, eqb-in, neqb, neqb-in}
 use Rattle.monitor.specs.Monitor.{Monitor, counted}
@@ -31,6 +31,20 @@ over-keeps f waiters x P p none one (suc n) =
     let y = overWaiters f waiters x n in
     let q = over-keeps f waiters x P p none one n in
     cases (λ b. P (suc n) (cond b y (f y n))) (eqb (getD waiters n 0) 0) (λ t. none n y (eqb→eq (getD waiters n 0) 0 t) q) (λ t. one n y (neqb (getD waiters n 0) 0 t) q)
+
+-- so of two walks over the same waiters
+pub over-both : {X Y : Type 0} (f : X → ℕ → X) (g : Y → ℕ → Y) (waiters : List ℕ) (x : X) (y : Y) (R : ℕ → X → Y → Type 0) → R 0 x y
+    → ((n : ℕ) (a : X) (b : Y) → getD waiters n 0 ≡ 0 → R n a b → R (suc n) a b)
+    → ((n : ℕ) (a : X) (b : Y) → (getD waiters n 0 ≡ 0 → ⊥) → R n a b → R (suc n) (f a n) (g b n))
+    → (n : ℕ) → R n (overWaiters f waiters x n) (overWaiters g waiters y n)
+unfolding overWaiters
+over-both f g waiters x y R r none one zero = r
+over-both f g waiters x y R r none one (suc n) =
+    let a = overWaiters f waiters x n in
+    let b = overWaiters g waiters y n in
+    let q = over-both f g waiters x y R r none one n in
+    cases (λ k. R (suc n) (cond k a (f a n)) (cond k b (g b n))) (eqb (getD waiters n 0) 0) (λ t. none n a b (eqb→eq (getD waiters n 0) 0 t) q)
+    (λ t. one n a b (neqb (getD waiters n 0) 0 t) q)
 
 -- what each step leaves alone is left alone
 pub over-same : {X Y : Type 0} (part : X → Y) (f : X → ℕ → X) (waiters : List ℕ) (x : X) → ((y : X) (n : ℕ) → part (f y n) ≡ part y) → (n : ℕ)
