@@ -3,6 +3,7 @@ use mathlib.Core.Path.{_≡_, refl, sym, _∙_}
 use mathlib.Core.Bool.{true, false, not, cond, _||_}
 use mathlib.Core.List.{List}
 use Prim.Native.Nat.{ℕ, _-_, _<_}
+use native.Mathlib.Omega.{arith}
 use lib.Dec.{T, leb, lit<, nleb→lt}
 use lib.ListN.{getD, set, replicate}
 use borrow.Author.Tests.{ne-eqb}
@@ -12,19 +13,21 @@ use Rattle.access.proofs.Checks.{setup-fails, lengths-fail, setup-passes}
 use Rattle.access.specs.Refusals.{numberOf}
 use Rattle.access.proofs.Refusals.{number-pos}
 use Rattle.access.specs.declared.Refusal.{Refusal}
+use Rattle.access.specs.declared.Refusal.the-variants.{Identifier}
 use Rattle.access.specs.Access.{registersEnd, readChecks, writeChecks}
 use Rattle.access.specs.Pairs.{knownAt}
 use Rattle.access.proofs.Pairs.{known-lt}
 use Rattle.tables.specs.View.{Small}
 use Rattle.tables.specs.Parts.{part, withPart, RowAt}
-use Rattle.tables.proofs.Tests.{nor-l, of-true, of-false}
+use Rattle.tables.proofs.Tests.{cases, nor-l, nor-r, of-true, of-false}
 use Rattle.monitor.specs.Monitor.{Monitor, cleared, monStatus, monAfter, writeMon, counted}
 use Rattle.monitor.specs.Bytes.{lastEvent, countsRequest, added}
 use Rattle.bandwidth_model.specs.Rules.{Setup, setupOk, pairs, holderOf, bwWord}
-use Rattle.bandwidth_model.specs.Calls.{Call, reset, read, write, endWindow, Grant, grantSum, refused, done, value, granted}
+use Rattle.bandwidth_model.specs.Calls.{Call, reset, read, write, endWindow, wait, need, Grant, grantSum, refused, done, value, granted}
 use Rattle.bandwidth_model.specs.Claim.{isReset}
 use Rattle.bandwidth_model.specs.View.{Requests}
-use Rattle.bandwidth_model.specs.Model.{State, Allocation, Usage, Outcome, lengthsOk, argumentChecks, stateChecks, readAt, opened, afterReset, afterWindow, grantOf, spend, serve, serveFrom, requested, writeAlloc, writeBw, writeAt, perform, step}
+use Rattle.bandwidth_model.specs.Waiters.{needAt, putWord}
+use Rattle.bandwidth_model.specs.Model.{State, withWaiters, Allocation, Usage, Outcome, lengthsOk, waitChecks, argumentChecks, stateChecks, readAt, opened, afterReset, afterWindow, grantOf, spend, serve, serveFrom, requested, writeAlloc, writeBw, writeAt, perform, step}
 use Rattle.bandwidth_model.proofs.Steps.{checking}
 use Rattle.bandwidth_settings.specs.View.{Ready}
 use Rattle.bandwidth_settings.specs.Rows.{Reserves}
@@ -44,10 +47,10 @@ module _ (s : State) (c : Call) (n : T (not (isReset c))) where
   call-failed r e = step-failed checking perform refused s c n (numberOf r) (number-pos r) e
 
   module _ {t : Totals} (p : Passes s t) where
-    pub call-refused : (r : Refusal) → first (argumentChecks (s .setup) c) 0 ≡ numberOf r → outcome (refused (numberOf r)) s ≡ step s c
+    pub call-refused : (r : Refusal) → first (argumentChecks (s .setup) (s .waiters) c) 0 ≡ numberOf r → outcome (refused (numberOf r)) s ≡ step s c
     call-refused r e = step-refused checking perform refused s c n (passing p) (numberOf r) (number-pos r) e
 
-    pub call-done : first (argumentChecks (s .setup) c) 0 ≡ 0 → (o : Outcome) → o ≡ perform s c → o ≡ step s c
+    pub call-done : first (argumentChecks (s .setup) (s .waiters) c) 0 ≡ 0 → (o : Outcome) → o ≡ perform s c → o ≡ step s c
     call-done e o q = q ∙ step-done checking perform refused s c n (passing p) e
 
 -- ---- each call
@@ -71,15 +74,40 @@ module _ {s : State} {t : Totals} (p : Passes s t) where
 
   module _ {c : Call} {n rcid mcid at kind bytes : ℕ} (k : Requests c n rcid mcid at kind bytes) where
     pub request-unknown : (leb (s .setup .nr) rcid || leb (s .setup .nm) mcid) ≡ true → (why : Refusal) → n ≡ numberOf why → outcome (refused (numberOf why)) s ≡ step s c
-    request-unknown e why q = call-refused s c (k .no-reset) p why (rw (k .checks (s .setup), e, q) refl)
+    request-unknown e why q = call-refused s c (k .no-reset) p why (rw (k .checks (s .setup) (s .waiters), e, q) refl)
 
     pub request-done : (leb (s .setup .nr) rcid || leb (s .setup .nm) mcid) ≡ false → (o : Outcome) → o ≡ requested s rcid mcid at kind bytes → o ≡ step s c
-    request-done e o q = call-done s c (k .no-reset) p (rw (k .checks (s .setup), e) refl) o (q ∙ sym (k .performs s))
+    request-done e o q = call-done s c (k .no-reset) p (rw (k .checks (s .setup) (s .waiters), e) refl) o (q ∙ sym (k .performs s))
 
-  pub end-done : (active used : List ℕ) → active ≡ s .alloc .configured → used ≡ replicate (pairs (s .setup)) 0
-      → outcome done (record { setup = s .setup; alloc = s .alloc; usage = record { active = active; used = used; pool = 0 }; monitor = s .monitor }) ≡ step s endWindow
-  unfolding argumentChecks perform afterWindow opened
-  end-done active used e f = call-done s endWindow tt p refl _ (rw (e, f) refl)
+  pub end-done : (x : State) → x ≡ afterWindow s → outcome done x ≡ step s endWindow
+  unfolding argumentChecks perform
+  end-done x e = call-done s endWindow tt p refl _ (rw e refl)
+
+  module _ (rcid mcid at kind bytes : ℕ) where
+    pub wait-refused : (why : Refusal) → numberOf why ≡ first (waitChecks (s .setup) (s .waiters) rcid mcid bytes) 0 → outcome (refused (numberOf why)) s ≡ step s (wait rcid mcid at kind bytes)
+    unfolding argumentChecks
+    wait-refused why e = call-refused s (wait rcid mcid at kind bytes) tt p why (sym e)
+
+    pub wait-done : {word : ℕ} {waiters : List ℕ} → 0 ≡ first (waitChecks (s .setup) (s .waiters) rcid mcid bytes) 0 → word ≡ putWord (s .setup) mcid at kind bytes
+        → waiters ≡ set (s .waiters) rcid word → outcome done (withWaiters s waiters) ≡ step s (wait rcid mcid at kind bytes)
+    unfolding argumentChecks perform
+    wait-done e f g = call-done s (wait rcid mcid at kind bytes) tt p (sym e) _ (rw (g, f) refl)
+
+    -- what passes the checks names an MCID that is there
+    pub wait-named : 0 ≡ first (waitChecks (s .setup) (s .waiters) rcid mcid bytes) 0 → mcid < s .setup .nm
+    wait-named e =
+        let a = leb (s .setup .nr) rcid in
+        let b = leb (s .setup .nm) mcid in
+        cases (λ x. (0 ≡ cond x 7 _) → mcid < s .setup .nm) (a || b) (λ t z. absurd (omega arith)) (λ t z. nleb→lt (s .setup .nm) mcid (nor-r a b t)) e
+
+  module _ (rcid : ℕ) where
+    pub need-refused : leb (s .setup .nr) rcid ≡ true → outcome (refused 7) s ≡ step s (need rcid)
+    unfolding argumentChecks
+    need-refused e = call-refused s (need rcid) tt p Identifier (rw e refl)
+
+    pub need-done : {v : ℕ} → leb (s .setup .nr) rcid ≡ false → v ≡ needAt (s .waiters) rcid → outcome (value v) s ≡ step s (need rcid)
+    unfolding argumentChecks perform
+    need-done e f = call-done s (need rcid) tt p (rw e refl) _ (rw f refl)
 
 -- an RCID that passes check 7
 pub known-rcid : (nr nm rcid mcid : ℕ) → (leb nr rcid || leb nm mcid) ≡ false → rcid < nr
@@ -92,16 +120,17 @@ module _ (s : State) (su : Setup) where
   pub reset-2 : true ≡ setupOk su → false ≡ lengthsOk su s → outcome (refused 2) s ≡ step s (reset su)
   reset-2 e f = reset-failed checking perform refused s su 2 (lit< tt) (lengths-fail (setupOk su) (lengthsOk su s) (of-true (sym e)) (of-false (sym f)))
 
-  pub reset-0 : true ≡ setupOk su → true ≡ lengthsOk su s → (active configured used counters events : List ℕ) → Fresh su active configured used counters events
+  pub reset-0 : true ≡ setupOk su → true ≡ lengthsOk su s → (active configured used counters events waiters : List ℕ) → Fresh su active configured used counters events waiters
       → outcome done (record {
         setup = su;
         alloc = record { ctl = 0; bw = 0; configured = configured };
         usage = record { active = active; used = used; pool = 0 };
         monitor = record { ctl = 0; value = 0; counters = counters; events = events };
+        waiters = waiters;
       }) ≡ step s (reset su)
   unfolding perform afterReset opened cleared
-  reset-0 e f active configured used counters events r =
-      rw (r .active-is, r .configured-is, r .used-is, r .counters-are, r .events-are) (reset-done checking perform refused s su (setup-passes (setupOk su) (lengthsOk su s) (of-true (sym e)) (of-true (sym f))))
+  reset-0 e f active configured used counters events waiters r =
+      rw (r .active-is, r .configured-is, r .used-is, r .counters-are, r .events-are, r .waiters-are) (reset-done checking perform refused s su (setup-passes (setupOk su) (lengthsOk su s) (of-true (sym e)) (of-true (sym f))))
 
 -- ---- requests
 
@@ -117,6 +146,7 @@ serve-steps : (s : State) (rcid mcid at kind bytes a : ℕ) (x : Grant) (sum : �
       alloc = s .alloc;
       usage = u;
       monitor = record { ctl = s .monitor .ctl; value = s .monitor .value; counters = counters; events = s .monitor .events };
+      waiters = s .waiters;
     }) ≡ requested s rcid mcid at kind bytes)
 unfolding requested serveFrom serve counted
 serve-steps s rcid mcid at kind bytes a x sum u counters e₁ e₂ e₃ e₄ e₅ = rw (e₅, e₄, e₃, e₂, e₁) refl
@@ -142,6 +172,7 @@ module _ {s : State} {t : Totals} (p : Passes s t) {rcid a from to : ℕ} (at by
         alloc = s .alloc;
         usage = usage (s .usage .active) (withPart from (to - from) (s .usage .used) left) gave;
         monitor = record { ctl = s .monitor .ctl; value = s .monitor .value; counters = counters; events = s .monitor .events };
+        waiters = s .waiters;
       }) ≡ requested s rcid mcid at kind bytes
   serve-row mcid kind {counters = counters} {x = x} {sum = sum} g c =
       let h = rw (p .totals .active) at g in
@@ -160,7 +191,7 @@ module _ {s : State} {t : Totals} (p : Passes s t) where
 
 module _ (s : State) (offset v : ℕ) where
   pub write-alloc-at : (a : Allocation) → offset ≡ 24 → a ≡ writeAlloc (s .setup) (s .alloc .bw) (s .alloc .configured) v
-      → record { setup = s .setup; alloc = a; usage = s .usage; monitor = s .monitor } ≡ writeAt s offset v
+      → record { setup = s .setup; alloc = a; usage = s .usage; monitor = s .monitor; waiters = s .waiters } ≡ writeAt s offset v
   unfolding writeAt
   write-alloc-at a e q = rw (e, q) refl
 
@@ -170,12 +201,13 @@ module _ (s : State) (offset v : ℕ) where
         alloc = record { ctl = s .alloc .ctl; bw = w; configured = s .alloc .configured };
         usage = s .usage;
         monitor = s .monitor;
+        waiters = s .waiters;
       } ≡ writeAt s offset v
   unfolding writeAt writeBw
   write-bw-at w e q = rw (e, q) refl
 
   pub write-mon-at : (st : ℕ) (m : Monitor) → offset ≡ 8 → Small (monStatus (s .setup .na) (s .setup .nm) lastEvent v) 5 st → m ≡ monAfter (s .setup .na) st (s .monitor) v
-      → record { setup = s .setup; alloc = s .alloc; usage = s .usage; monitor = m } ≡ writeAt s offset v
+      → record { setup = s .setup; alloc = s .alloc; usage = s .usage; monitor = m; waiters = s .waiters } ≡ writeAt s offset v
   unfolding writeAt writeMon
   write-mon-at st m e g q = rw (e, q, g .is) refl
 

@@ -39,23 +39,26 @@ impl Record {
         used: &[u32],
         counters: &[u64],
         events: &[u16],
+        waiters: &[u64],
     ) -> bool
         requires { ⌜ Ranges (setupOf setup) ⌝ }
-        ensures { λ r. ⌜ r ≡ lengthsOk (setupOf setup) (before self active configured used counters events) ⌝ }
+        ensures { λ r. ⌜ r ≡ lengthsOk (setupOf setup) (before self active configured used counters events waiters) ⌝ }
     {
         let pairs = setup.pairs() as usize;
         let nm = setup.nm as usize;
+        let nr = setup.nr as usize;
         (active.len() == pairs)
             & (configured.len() == pairs)
             & (used.len() == pairs)
             & (counters.len() == nm)
             & (events.len() == nm)
+            & (waiters.len() == nr)
     }
 
     // Check 3, by what is found of the tables.
     pub fn state_ok(self, tables: TablesOk) -> bool
         requires { ⌜ Ranges (setupOf (self .setup)) ⌝ }
-        ensures { λ ok. ⌜ ((active configured used counters events : List ℕ) → TablesChecked (setupOf (self .setup)) active configured used counters events tables → ok ≡ wellFormed (state self active configured used counters events)) ⌝ }
+        ensures { λ ok. ⌜ ((active configured used counters events waiters : List ℕ) → TablesChecked (setupOf (self .setup)) active configured used counters events waiters tables → ok ≡ wellFormed (state self active configured used counters events waiters)) ⌝ }
     {
         let setup = self.setup;
         let left = saturating_sub(setup.nbwblks, tables.active) * setup.q;
@@ -72,13 +75,14 @@ impl Record {
         used: &[u32],
         counters: &[u64],
         events: &[u16],
+        waiters: &[u64],
     ) -> Check
-        ensures { λ r. ⌜ Checked (before self active configured used counters events) r ⌝ }
+        ensures { λ r. ⌜ Checked (before self active configured used counters events waiters) r ⌝ }
     {
         let setup = self.setup;
         if setup.in_range() {
-            if self.lengths_ok(setup, active, configured, used, counters, events) {
-                let tables = tables_ok(setup, active, configured, used, counters, events);
+            if self.lengths_ok(setup, active, configured, used, counters, events, waiters) {
+                let tables = tables_ok(setup, active, configured, used, counters, events, waiters);
                 if self.state_ok(tables) {
                     Check::Passed(Totals {
                         active: tables.active,

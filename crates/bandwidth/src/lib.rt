@@ -4,6 +4,7 @@ mod registers;
 mod request;
 mod reset;
 mod row;
+mod wait;
 mod window;
 
 use access::Ack;

@@ -43,7 +43,7 @@ impl Record {
     // The register that an offset lies in.
     fn register(self, n: u64) -> u64
         requires { ⌜ Ranges (setupOf (self .setup)) ⌝ }
-        ensures { λ r. ⌜ ((active configured used counters events : List ℕ) → r ≡ register (state self active configured used counters events) n) ⌝ }
+        ensures { λ r. ⌜ ((active configured used counters events waiters : List ℕ) → r ≡ register (state self active configured used counters events waiters) n) ⌝ }
     {
         match n {
             0 => self.capabilities(),
@@ -57,8 +57,8 @@ impl Record {
     // The answer of a read that passes checks 1 to 3, whatever the tables are.
     pub fn reading(self, size: u64, offset: u64) -> Reading
         requires { ⌜ Ranges (setupOf (self .setup)) ⌝ }
-        ensures { λ r. ⌜ ((active configured used counters events : List ℕ) (t : totals.Totals) → Passes (state self active configured used counters events) t
-            → outcome (readingOf r) (state self active configured used counters events) ≡ step (state self active configured used counters events) (read size offset)) ⌝ }
+        ensures { λ r. ⌜ ((active configured used counters events waiters : List ℕ) (t : totals.Totals) → Passes (state self active configured used counters events waiters) t
+            → outcome (readingOf r) (state self active configured used counters events waiters) ≡ step (state self active configured used counters events waiters) (read size offset)) ⌝ }
     {
         match read_verdict(size, offset) {
             Verdict::Failed(why) => Reading::Refused(why),
@@ -76,12 +76,13 @@ impl Record {
         used: &[u32],
         counters: &[u64],
         events: &[u16],
+        waiters: &[u64],
         size: u64,
         offset: u64,
     ) -> Read
-        ensures { λ r. ⌜ outcome (readingOf (r .reading)) (after (r .«record») active configured used counters events) ≡ step (before self active configured used counters events) (read size offset) ⌝ }
+        ensures { λ r. ⌜ outcome (readingOf (r .reading)) (after (r .«record») active configured used counters events waiters) ≡ step (before self active configured used counters events waiters) (read size offset) ⌝ }
     {
-        match self.check(active, configured, used, counters, events) {
+        match self.check(active, configured, used, counters, events, waiters) {
             Check::Failed(why) => Read {
                 record: self,
                 reading: Reading::Refused(why),
@@ -104,12 +105,13 @@ impl Record {
         used: &[u32],
         counters: &mut [u64],
         events: &mut [u16],
+        waiters: &[u64],
         totals: Totals,
         offset: u64,
         value: u64,
     ) -> Record
-        requires { ⌜ Passes (state self (now active) (now configured) (now used) (now counters) (now events)) totals ⌝ }
-        ensures { λ r. ⌜ after r active configured used counters events ≡ writeAt (before self active configured used counters events) offset value ⌝ }
+        requires { ⌜ Passes (state self (now active) (now configured) (now used) (now counters) (now events) (now waiters)) totals ⌝ }
+        ensures { λ r. ⌜ after r active configured used counters events waiters ≡ writeAt (before self active configured used counters events waiters) offset value ⌝ }
     {
         let setup = self.setup;
         match offset {
@@ -127,7 +129,7 @@ impl Record {
                     value: self.mon_ctr_val,
                 };
                 let status = bandwidth_status(setup.na, setup.nm, value);
-                let done = write_mon(setup.na, status, old, counters, events, value);
+                let done = write_mon(setup.na, status, old, counters, events, waiters, value);
                 self.mon_ctl = done.ctl;
                 self.mon_ctr_val = done.value;
             }
@@ -143,13 +145,14 @@ impl Record {
         used: &[u32],
         counters: &mut [u64],
         events: &mut [u16],
+        waiters: &[u64],
         size: u64,
         offset: u64,
         value: u64,
     ) -> Acked
-        ensures { λ r. ⌜ outcome (ackOf (r .ack)) (after (r .«record») active configured used counters events) ≡ step (before self active configured used counters events) (write size offset value) ⌝ }
+        ensures { λ r. ⌜ outcome (ackOf (r .ack)) (after (r .«record») active configured used counters events waiters) ≡ step (before self active configured used counters events waiters) (write size offset value) ⌝ }
     {
-        match self.check(active, configured, used, counters, events) {
+        match self.check(active, configured, used, counters, events, waiters) {
             Check::Failed(why) => Acked {
                 record: self,
                 ack: Ack::Refused(why),
@@ -166,6 +169,7 @@ impl Record {
                         used,
                         counters,
                         events,
+                        waiters,
                         totals,
                         offset,
                         value,

@@ -29,6 +29,7 @@ impl Record {
         used: &mut [u32],
         counters: &mut [u64],
         events: &[u16],
+        waiters: &[u64],
         totals: Totals,
         rcid: u64,
         mcid: u64,
@@ -36,8 +37,8 @@ impl Record {
         kind: u64,
         bytes: u32,
     ) -> Served
-        requires { ⌜ Passes (state self (now active) (now configured) (now used) (now counters) (now events)) totals × (rcid < self .setup .nr) ⌝ }
-        ensures { λ r. ⌜ outcome (grantingOf (r .granting)) (after (r .«record») active configured used counters events) ≡ requested (before self active configured used counters events) rcid mcid at kind bytes ⌝ }
+        requires { ⌜ Passes (state self (now active) (now configured) (now used) (now counters) (now events) (now waiters)) totals × (rcid < self .setup .nr) ⌝ }
+        ensures { λ r. ⌜ outcome (grantingOf (r .granting)) (after (r .«record») active configured used counters events waiters) ≡ requested (before self active configured used counters events waiters) rcid mcid at kind bytes ⌝ }
     {
         let setup = self.setup;
         let at = known_at(setup.na, at);
@@ -56,7 +57,7 @@ impl Record {
         self.pool = given.pool;
         let sum = given.sum;
         let grant = given.grant;
-        count_bytes(setup.w, counters, events, mcid, at, kind, sum);
+        count_bytes(setup.w, counters, events, waiters, mcid, at, kind, sum);
         Served {
             record: self,
             granting: Granting::Bytes(grant),
@@ -71,6 +72,7 @@ impl Record {
         used: &mut [u32],
         counters: &mut [u64],
         events: &[u16],
+        waiters: &[u64],
         rcid: u64,
         mcid: u64,
         unknown: Refusal,
@@ -79,9 +81,9 @@ impl Record {
         bytes: u32,
     ) -> Served
         ensures { λ r. ⌜ ((c : Call) → Requests c (numberOf unknown) rcid mcid at kind bytes
-            → outcome (grantingOf (r .granting)) (after (r .«record») active configured used counters events) ≡ step (before self active configured used counters events) c) ⌝ }
+            → outcome (grantingOf (r .granting)) (after (r .«record») active configured used counters events waiters) ≡ step (before self active configured used counters events waiters) c) ⌝ }
     {
-        match self.check(active, configured, used, counters, events) {
+        match self.check(active, configured, used, counters, events, waiters) {
             Check::Failed(why) => Served {
                 record: self,
                 granting: Granting::Refused(why),
@@ -100,6 +102,7 @@ impl Record {
                     used,
                     counters,
                     events,
+                    waiters,
                     totals,
                     rcid,
                     mcid,
@@ -118,13 +121,14 @@ impl Record {
         used: &mut [u32],
         counters: &mut [u64],
         events: &[u16],
+        waiters: &[u64],
         rcid: u64,
         mcid: u64,
         at: u64,
         kind: u64,
         bytes: u32,
     ) -> Served
-        ensures { λ r. ⌜ outcome (grantingOf (r .granting)) (after (r .«record») active configured used counters events) ≡ step (before self active configured used counters events) (request rcid mcid at kind bytes) ⌝ }
+        ensures { λ r. ⌜ outcome (grantingOf (r .granting)) (after (r .«record») active configured used counters events waiters) ≡ step (before self active configured used counters events waiters) (request rcid mcid at kind bytes) ⌝ }
     {
         self.request_by(
             active,
@@ -132,6 +136,7 @@ impl Record {
             used,
             counters,
             events,
+            waiters,
             rcid,
             mcid,
             Refusal::Identifier,
@@ -149,13 +154,14 @@ impl Record {
         used: &mut [u32],
         counters: &mut [u64],
         events: &[u16],
+        waiters: &[u64],
         mode: u64,
         word: u64,
         at: u64,
         kind: u64,
         bytes: u32,
     ) -> Served
-        ensures { λ r. ⌜ outcome (grantingOf (r .granting)) (after (r .«record») active configured used counters events) ≡ step (before self active configured used counters events) (deviceRequest mode word at kind bytes) ⌝ }
+        ensures { λ r. ⌜ outcome (grantingOf (r .granting)) (after (r .«record») active configured used counters events waiters) ≡ step (before self active configured used counters events waiters) (deviceRequest mode word at kind bytes) ⌝ }
     {
         let ids = identifiers_in(mode, word);
         self.request_by(
@@ -164,6 +170,7 @@ impl Record {
             used,
             counters,
             events,
+            waiters,
             ids.rcid,
             ids.mcid,
             out_of_range(mode),

@@ -62,15 +62,17 @@ fn reset_tables(
     used: &mut [u32],
     counters: &mut [u64],
     events: &mut [u16],
+    waiters: &mut [u64],
 )
-    requires { ⌜ Ranges (setupOf setup) × Sized (setupOf setup) (now active) (now configured) (now used) (now counters) (now events) ⌝ }
-    ensures { λ r. ⌜ Fresh (setupOf setup) (now (active .exit)) (now (configured .exit)) (now (used .exit)) (now (counters .exit)) (now (events .exit)) ⌝ }
+    requires { ⌜ Ranges (setupOf setup) × Sized (setupOf setup) (now active) (now configured) (now used) (now counters) (now events) (now waiters) ⌝ }
+    ensures { λ r. ⌜ Fresh (setupOf setup) (now (active .exit)) (now (configured .exit)) (now (used .exit)) (now (counters .exit)) (now (events .exit)) (now (waiters .exit)) ⌝ }
 {
     reset_table(setup, configured);
     copy32(active, configured);
     fill32(used, 0);
     fill64(counters, 0);
     fill16(events, 0);
+    fill64(waiters, 0);
 }
 
 impl Record {
@@ -81,13 +83,14 @@ impl Record {
         used: &mut [u32],
         counters: &mut [u64],
         events: &mut [u16],
+        waiters: &mut [u64],
         setup: Setup,
     ) -> Acked
-        ensures { λ r. ⌜ outcome (ackOf (r .ack)) (after (r .«record») active configured used counters events) ≡ step (before self active configured used counters events) (reset (setupOf setup)) ⌝ }
+        ensures { λ r. ⌜ outcome (ackOf (r .ack)) (after (r .«record») active configured used counters events waiters) ≡ step (before self active configured used counters events waiters) (reset (setupOf setup)) ⌝ }
     {
         if setup.in_range() {
-            if self.lengths_ok(setup, active, configured, used, counters, events) {
-                reset_tables(setup, active, configured, used, counters, events);
+            if self.lengths_ok(setup, active, configured, used, counters, events, waiters) {
+                reset_tables(setup, active, configured, used, counters, events, waiters);
                 Acked {
                     record: Record {
                         setup,

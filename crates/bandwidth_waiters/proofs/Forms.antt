@@ -1,7 +1,7 @@
 -- The words of waiters: the tests that check 3 makes of one are the definition's.
-use mathlib.Core.Path.{_≡_, sym, subst, _∙_}
-use mathlib.Core.Bool.{cond, _&&_, _||_}
-use mathlib.Core.List.{List}
+use mathlib.Core.Path.{_≡_, refl, sym, subst, _∙_}
+use mathlib.Core.Bool.{Bool, true, false, not, cond, _&&_, _||_}
+use mathlib.Core.List.{List, [], _∷_}
 use Prim.Native.Nat.{ℕ, _/_, _%_, _^_}
 use native.Mathlib.Nat.{mod-eq-of-lt, mod-lt}
 use lib.Bits.{and-mask}
@@ -14,8 +14,9 @@ use Rattle.fields.proofs.Laws.{pack-unpack}
 use Rattle.fields.proofs.Registers.{waiter-ordered}
 use Rattle.tables.specs.Below.{allBelow}
 use Rattle.tables.specs.View.{unionBelow}
-use Rattle.tables.proofs.Tests.{eqb-in, same-test}
+use Rattle.tables.proofs.Tests.{eqb-in, is-true, is-false, same-test}
 use Rattle.tables.proofs.Union.{none-bad, low-test}
+use Rattle.access.specs.Checks.{_gives_, first}
 use Rattle.bandwidth_model.specs.Rules.{Setup}
 use Rattle.bandwidth_model.specs.Waiters.{needOf, waiterMcid, waiterAt, waiterOk}
 
@@ -43,3 +44,22 @@ badAt su t i = cond (waiterOk su (getD t i 0)) 0 1
 pub waiters-test : (su : Setup) (t : List ℕ) (n : ℕ) → eqb (unionBelow n (badAt su t)) 0 ≡ allBelow n (λ i. waiterOk su (getD t i 0))
 unfolding badAt
 waiters-test su t n = none-bad n 0 (λ i. waiterOk su (getD t i 0))
+
+-- ---- a request that is put to wait
+
+-- the first of three checks that fails
+module _ (a b c : Bool) where
+  abbrev found : ℕ
+  found = first ((a gives 7) ∷ (b gives 10) ∷ (c gives 11) ∷ []) 0
+
+  pub found-7 : a ≡ true → 7 ≡ found
+  found-7 e = rw e refl
+
+  pub found-10 : a ≡ false → T b → 10 ≡ found
+  found-10 e f = rw (e, is-true b f) refl
+
+  pub found-11 : a ≡ false → T (not b) → T c → 11 ≡ found
+  found-11 e f g = rw (e, is-false b f, is-true c g) refl
+
+  pub found-none : a ≡ false → T (not b) → T (not c) → 0 ≡ found
+  found-none e f g = rw (e, is-false b f, is-false c g) refl

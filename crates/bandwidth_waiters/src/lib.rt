@@ -18,6 +18,7 @@ use tables::word32;
 pub use words::need_of;
 pub use words::put_word;
 pub use words::served_word;
+pub use words::wait_verdict;
 pub use words::waiters_ok;
 ghost use mathlib.Core.Path.{_≡_};
 ghost use Prim.Native.Nat.{_*_, _/_, _^_, _≤_};

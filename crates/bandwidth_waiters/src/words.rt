@@ -1,4 +1,6 @@
 // The words of waiters.
+use access::Refusal;
+use access::Verdict;
 use access::known_at;
 use bandwidth_setup::Setup;
 use fields::Waiter;
@@ -6,12 +8,16 @@ use tables::pick;
 use tables::saturating_sub;
 ghost use mathlib.Core.Path.{_≡_};
 ghost use mathlib.Core.Bool.{cond};
-ghost use Prim.Native.Nat.{_<_};
+ghost use mathlib.Core.List.{List};
+ghost use Prim.Native.Nat.{ℕ, _<_};
 ghost use lib.ListN.{length, getD};
 ghost use Rattle.fields.specs.View.{InRange, ofWaiter};
 ghost use Rattle.fields.specs.Registers as reg;
 ghost use Rattle.tables.specs.Below.{allBelow};
+ghost use Rattle.access.specs.Checks.{first};
+ghost use Rattle.access.specs.View.{verdictOf};
 ghost use Rattle.bandwidth_model.specs.View.{Ranges};
+ghost use Rattle.bandwidth_model.specs.Model.{waitChecks};
 ghost use Rattle.bandwidth_model.specs.Waiters.{needOf, waiterWord, putWord, servedWord, waiterOk};
 ghost use Rattle.bandwidth_setup.specs.View.{setupOf};
 
@@ -28,6 +34,22 @@ fn waiter_word(waiter: Waiter) -> u64
     ensures { λ r. ⌜ r ≡ waiterWord (waiter .need) (waiter .mcid) (waiter .at) (waiter .write) ⌝ }
 {
     if waiter.need == 0 { 0 } else { waiter.pack() }
+}
+
+// Checks 7, 10 and 11 of a request that is put to wait, by the word under its RCID.
+pub fn wait_verdict(setup: Setup, word: u64, rcid: u64, mcid: u64, bytes: u32) -> Verdict
+    ensures { λ r. ⌜ ((waiters : List ℕ) → word ≡ getD waiters rcid 0 → verdictOf r ≡ first (waitChecks (setupOf setup) waiters rcid mcid bytes) 0) ⌝ }
+{
+    if (setup.nr <= rcid) | (setup.nm <= mcid) {
+        return Verdict::Failed(Refusal::Identifier);
+    }
+    if word != 0 {
+        return Verdict::Failed(Refusal::AlreadyWaits);
+    }
+    if bytes == 0 {
+        return Verdict::Failed(Refusal::NoBytes);
+    }
+    Verdict::Passed
 }
 
 // The word of a request that is put to wait.

@@ -12,9 +12,9 @@ returns c _ _ _ _ _ _ p = read-refused p _ _ (c .before .why .given .0 .0) (sym 
 
 returns-2 : tie.Need-returns-2
 unfolding readAt
-returns-2 c active configured used counters events _ p =
+returns-2 c active configured used counters events waiters _ p =
     read-done p _ _ _ (sym (ap verdictOf (c .before .before .enum-told .given .1)) ∙ c .before .before .before .before .read-verdict .ensures)
-    (c .part .ensures ∙ rw (c .before .register .ensures active configured used counters events) refl)
+    (c .part .ensures ∙ rw (c .before .register .ensures active configured used counters events waiters) refl)
 
 pub reading-spec : {M : Type 1} → statement M
 reading-spec = tie.close (tie.spec (λ c κs. search needs) (λ c. search needs) (λ c. search needs) (λ c κs. search needs) (λ c κs. search needs) returns returns-2)

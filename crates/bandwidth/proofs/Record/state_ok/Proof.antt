@@ -15,12 +15,12 @@ mul-left c =
 
 returns : tie.Need-returns
 unfolding registersOk
-returns c active configured used counters events t =
+returns c active configured used counters events waiters t =
     let a = c .before .before .before .before .before .before .before .args in
     let left = c .before .before .before .before .before .saturating-sub in
     let regs = c .before .before .before .registers-ok in
     let ctl = c .before .before .control-ok in
-    well-formed-is (state (a .self) active configured used counters events)
+    well-formed-is (state (a .self) active configured used counters events waiters)
     (a .tables .ok) (a .tables .active) (left .result) (regs .result) (ctl .result) (search needs)
     (t .ok) (t .active) (left .ensures) (regs .ensures) (ctl .ensures)
 
