@@ -1,14 +1,14 @@
 -- A call by its checks, and its steps, each by its own definition, put together.
 use mathlib.Core.Path.{_≡_, refl, sym, _∙_}
 use mathlib.Core.Bool.{true, false, not, cond, _||_}
-use mathlib.Core.List.{List}
-use Prim.Native.Nat.{ℕ, _-_, _<_}
+use mathlib.Core.List.{List, [], _∷_}
+use Prim.Native.Nat.{ℕ, _-_, _≤_, _<_}
 use native.Mathlib.Omega.{arith}
-use lib.Dec.{T, leb, lit<, nleb→lt}
+use lib.Dec.{T, leb, eqb, lit<, nleb→lt, leb→le, le→leb}
 use lib.ListN.{getD, set, replicate}
 use borrow.Author.Tests.{ne-eqb}
 use Rattle.runs.proofs.Checks.{step-failed, step-refused, step-done, reset-failed, reset-done}
-use Rattle.access.specs.Checks.{first}
+use Rattle.access.specs.Checks.{_gives_, first}
 use Rattle.access.proofs.Checks.{setup-fails, lengths-fail, setup-passes}
 use Rattle.access.specs.Refusals.{numberOf}
 use Rattle.access.proofs.Refusals.{number-pos}
@@ -19,7 +19,7 @@ use Rattle.access.specs.Pairs.{knownAt}
 use Rattle.access.proofs.Pairs.{known-lt}
 use Rattle.tables.specs.View.{Small}
 use Rattle.tables.specs.Parts.{part, withPart, RowAt}
-use Rattle.tables.proofs.Tests.{cases, nor-l, nor-r, of-true, of-false}
+use Rattle.tables.proofs.Tests.{cases, nor-l, nor-r, not-in, is-true, is-false, of-true, of-false}
 use Rattle.monitor.specs.Monitor.{Monitor, cleared, monStatus, monAfter, writeMon, counted}
 use Rattle.monitor.specs.Bytes.{lastEvent, countsRequest, added}
 use Rattle.bandwidth_model.specs.Rules.{Setup, setupOk, pairs, holderOf, bwWord}
@@ -98,16 +98,19 @@ module _ {s : State} {t : Totals} (p : Passes s t) where
     wait-named e =
         let a = leb (s .setup .nr) rcid in
         let b = leb (s .setup .nm) mcid in
-        cases (λ x. (0 ≡ cond x 7 _) → mcid < s .setup .nm) (a || b) (λ t z. absurd (omega arith)) (λ t z. nleb→lt (s .setup .nm) mcid (nor-r a b t)) e
+        let rest = first ((not (eqb (getD (s .waiters) rcid 0) 0) gives 10) ∷ (eqb bytes 0 gives 11) ∷ []) 0 in
+        cases (λ x. 0 ≡ cond x 7 rest → mcid < s .setup .nm) (a || b) (λ t (z : 0 ≡ 7). absurd (omega arith)) (λ t z. nleb→lt (s .setup .nm) mcid (nor-r a b t)) e
 
   module _ (rcid : ℕ) where
-    pub need-refused : leb (s .setup .nr) rcid ≡ true → outcome (refused 7) s ≡ step s (need rcid)
+    pub need-refused : s .setup .nr ≤ rcid → outcome (refused 7) s ≡ step s (need rcid)
     unfolding argumentChecks
-    need-refused e = call-refused s (need rcid) tt p Identifier (rw e refl)
+    need-refused l = call-refused s (need rcid) tt p Identifier (rw (is-true (leb (s .setup .nr) rcid) (le→leb (s .setup .nr) rcid l)) refl)
 
-    pub need-done : {v : ℕ} → leb (s .setup .nr) rcid ≡ false → v ≡ needAt (s .waiters) rcid → outcome (value v) s ≡ step s (need rcid)
+    pub need-done : {v : ℕ} → rcid < s .setup .nr → v ≡ needAt (s .waiters) rcid → outcome (value v) s ≡ step s (need rcid)
     unfolding argumentChecks perform
-    need-done e f = call-done s (need rcid) tt p (rw e refl) _ (rw f refl)
+    need-done l f =
+        let out = leb (s .setup .nr) rcid in
+        call-done s (need rcid) tt p (rw (is-false out (not-in out (λ t. omega (arith, leb→le (s .setup .nr) rcid t)))) refl) _ (rw f refl)
 
 -- an RCID that passes check 7
 pub known-rcid : (nr nm rcid mcid : ℕ) → (leb nr rcid || leb nm mcid) ≡ false → rcid < nr

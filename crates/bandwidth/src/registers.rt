@@ -129,7 +129,7 @@ impl Record {
                     value: self.mon_ctr_val,
                 };
                 let status = bandwidth_status(setup.na, setup.nm, value);
-                let done = write_mon(setup.na, status, old, counters, events, waiters, value);
+                let done = write_mon(setup.na, status, old, counters, events, value);
                 self.mon_ctl = done.ctl;
                 self.mon_ctr_val = done.value;
             }

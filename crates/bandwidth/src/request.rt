@@ -57,7 +57,7 @@ impl Record {
         self.pool = given.pool;
         let sum = given.sum;
         let grant = given.grant;
-        count_bytes(setup.w, counters, events, waiters, mcid, at, kind, sum);
+        count_bytes(setup.w, counters, events, mcid, at, kind, sum);
         Served {
             record: self,
             granting: Granting::Bytes(grant),

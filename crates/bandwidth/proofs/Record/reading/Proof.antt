@@ -8,7 +8,7 @@ use Rattle.bandwidth.proofs.Record.reading.Statement.{statement}
 use Rattle.bandwidth.proofs.Record.reading.Tie as tie
 
 returns : tie.Need-returns
-returns c _ _ _ _ _ _ p = read-refused p _ _ (c .before .why .given .0 .0) (sym (ap verdictOf (c .before .why .given .1)) ∙ c .before .before .before .read-verdict .ensures)
+returns c _ _ _ _ _ _ _ p = read-refused p _ _ (c .before .why .given .0 .0) (sym (ap verdictOf (c .before .why .given .1)) ∙ c .before .before .before .read-verdict .ensures)
 
 returns-2 : tie.Need-returns-2
 unfolding readAt

@@ -7,10 +7,10 @@ use Rattle.bandwidth.proofs.Record.request_by.Statement.{statement}
 use Rattle.bandwidth.proofs.Record.request_by.Tie as tie
 
 returns : tie.Need-returns
-returns c d k = request-unknown (passed-of _ _ _ (c .before .before .before .before .before .before .before .check .ensures) (c .before .before .before .before .before .totals .given .1)) k (c .if1 .taken) (c .before .before .before .before .before .before .before .before .before .before .before .before .before .before .before .args .unknown) refl
+returns c d k = request-unknown (passed-of _ _ _ (c .before .before .before .before .before .before .before .check .ensures) (c .before .before .before .before .before .totals .given .1)) k (c .if1 .taken) (c .before .before .before .before .before .before .before .before .before .before .before .before .before .before .before .before .args .unknown) refl
 
 serve-requires : tie.Need-serve-requires
-serve-requires c κs = (passed-of _ _ _ (c .before .before .before .before .before .before .before .before .before .check .ensures) (c .before .before .before .before .before .before .before .totals .given .1), let a = c .before .before .before .before .before .before .before .before .before .before .before .before .before .before .before .before .before .args in known-rcid (a .self .setup .nr) (a .self .setup .nm) (a .rcid) (a .mcid) (c .before .before .if1 .left))
+serve-requires c κs = (passed-of _ _ _ (c .before .before .before .before .before .before .before .before .before .check .ensures) (c .before .before .before .before .before .before .before .totals .given .1), let a = c .before .before .before .before .before .before .before .before .before .before .before .before .before .before .before .before .before .before .args in known-rcid (a .self .setup .nr) (a .self .setup .nm) (a .rcid) (a .mcid) (c .before .before .if1 .left))
 
 returns-2 : tie.Need-returns-2
 returns-2 c d k = call-failed _ d (k .no-reset) (c .before .why .given .0 .0) (failed-of _ _ _ (c .before .before .before .check .ensures) (c .before .why .given .1))
