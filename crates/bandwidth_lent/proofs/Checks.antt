@@ -26,6 +26,7 @@ use Rattle.bandwidth_model.specs.Rules.{Setup, setupOk, pairs}
 use Rattle.bandwidth_model.specs.Calls.{Call, refused}
 use Rattle.bandwidth_model.specs.Claim.{isReset}
 use Rattle.bandwidth_model.specs.View.{Ranges}
+use Rattle.bandwidth_model.specs.Waiters.{waiterOk}
 use Rattle.bandwidth_model.specs.Model.{State, lengthsOk, wellFormed}
 use Rattle.bandwidth_model.proofs.Setup.{setup-ok}
 use Rattle.bandwidth.specs.declared.Record.{Record}
@@ -75,22 +76,24 @@ module _ (l : Lent) (r : Record) (w : wordsIn r ≡ wordsOf 8 12 (l .«record»)
       )
 
   -- all that check 3 finds of the tables
-  pub tables-summed : {sums : Sums} {k e : Bool} → Bytes (l .active) → Bytes (l .configured)
+  pub tables-summed : {sums : Sums} {k e v : Bool} → Bytes (l .active) → Bytes (l .configured)
       → Summed (su .na) (su .q) (tableOf 4 (l .active)) (tableOf 4 (l .configured)) (tableOf 4 (l .used)) (su .nr) sums
       → k ≡ allBelow (length (tableOf 8 (l .counters))) (λ i. counterOk reg.bandwidthCounter reg.bandwidthCtr (su .w) (getD (tableOf 8 (l .counters)) i 0))
       → e ≡ allBelow (length (tableOf 2 (l .events))) (λ i. settingOk (su .na) lastEvent (getD (tableOf 2 (l .events)) i 0))
-      → SummedTables su (tableOf 4 (l .active)) (tableOf 4 (l .configured)) (tableOf 4 (l .used)) (tableOf 8 (l .counters)) (tableOf 2 (l .events)) sums k e
-  tables-summed a c s k e = record {
+      → v ≡ allBelow (length (tableOf 8 (l .waiters))) (λ i. waiterOk su (getD (tableOf 8 (l .waiters)) i 0))
+      → SummedTables su (tableOf 4 (l .active)) (tableOf 4 (l .configured)) (tableOf 4 (l .used)) (tableOf 8 (l .counters)) (tableOf 2 (l .events)) (tableOf 8 (l .waiters)) sums k e v
+  tables-summed a c s k e v = record {
     sized = words-sized su l held-long;
     active-fits = table-below 4 (l .active) (lit< tt) a;
     configured-fits = table-below 4 (l .configured) (lit< tt) c;
     summed = s;
     counters-are = k;
     events-are = e;
+    waiters-are = v;
   }
 
-  pub words-held : Bytes (l .«record») → Bytes (l .active) → Bytes (l .configured) → Bytes (l .used) → Bytes (l .counters) → Bytes (l .events) → Words l r
-  words-held b a c u n e =
+  pub words-held : Bytes (l .«record») → Bytes (l .active) → Bytes (l .configured) → Bytes (l .used) → Bytes (l .counters) → Bytes (l .events) → Bytes (l .waiters) → Words l r
+  words-held b a c u n e v =
       let g = held-long .tables in
       record {
         «record» = held 8 (lit< tt) (l .«record») (wordsIn r) (wordsIn r) (sym (held-long .record-long)) b w;
@@ -99,10 +102,11 @@ module _ (l : Lent) (r : Record) (w : wordsIn r ≡ wordsOf 8 12 (l .«record»)
         used = table-held 4 _ (l .used) (lit< tt) (g .used-long) u;
         counters = table-held 8 _ (l .counters) (lit< tt) (g .counters-long) n;
         events = table-held 2 _ (l .events) (lit< tt) (g .events-long) e;
+        waiters = table-held 8 _ (l .waiters) (lit< tt) (g .waiters-long) v;
       }
 
   module _ {t : TablesOk} {ok : Bool}
-      (c : TablesChecked su (tableOf 4 (l .active)) (tableOf 4 (l .configured)) (tableOf 4 (l .used)) (tableOf 8 (l .counters)) (tableOf 2 (l .events)) t)
+      (c : TablesChecked su (tableOf 4 (l .active)) (tableOf 4 (l .configured)) (tableOf 4 (l .used)) (tableOf 8 (l .counters)) (tableOf 2 (l .events)) (tableOf 8 (l .waiters)) t)
       (is : ok ≡ wellFormed (stateIn l r)) where
     pub check-passed : ok ≡ true → Words l r → Passing l (record { «record» = r; totals = record { active = t .active; configured = t .configured } })
     check-passed e h =

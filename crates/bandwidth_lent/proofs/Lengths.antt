@@ -34,7 +34,7 @@ module _ (su : Setup) (l : Lent) where
   long z =
       let p = passed (eqb (length (l .«record»)) recordLength) (setupOk su) (bytesFit su l) z in
       let t = p .1 .1 in
-      record { record-long = eqb→eq (length (l .«record»)) recordLength (p .0); tables = search (eqb→eq, and-l, and-r) depth 9 }
+      record { record-long = eqb→eq (length (l .«record»)) recordLength (p .0); tables = search (eqb→eq, and-l, and-r) depth 10 }
 
   -- and the set-up is in range
   pub in-range : byteRefusal su l ≡ 0 → Ranges su
@@ -42,11 +42,12 @@ module _ (su : Setup) (l : Lent) where
   in-range z = ranges su (passed (eqb (length (l .«record»)) recordLength) (setupOk su) (bytesFit su l) z .1 .0)
 
   -- the lengths of the tables' words
-  pub words-sized : Long su l → Sized su (tableOf 4 (l .active)) (tableOf 4 (l .configured)) (tableOf 4 (l .used)) (tableOf 8 (l .counters)) (tableOf 2 (l .events))
+  pub words-sized : Long su l → Sized su (tableOf 4 (l .active)) (tableOf 4 (l .configured)) (tableOf 4 (l .used)) (tableOf 8 (l .counters)) (tableOf 2 (l .events)) (tableOf 8 (l .waiters))
   words-sized g = record {
     active-long = table-length 4 (pairs su) (l .active) (lit< tt) (g .tables .active-long);
     configured-long = table-length 4 (pairs su) (l .configured) (lit< tt) (g .tables .configured-long);
     used-long = table-length 4 (pairs su) (l .used) (lit< tt) (g .tables .used-long);
     counters-long = table-length 8 (su .nm) (l .counters) (lit< tt) (g .tables .counters-long);
     events-long = table-length 2 (su .nm) (l .events) (lit< tt) (g .tables .events-long);
+    waiters-long = table-length 8 (su .nr) (l .waiters) (lit< tt) (g .tables .waiters-long);
   }

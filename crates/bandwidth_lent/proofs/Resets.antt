@@ -44,13 +44,13 @@ module _ (l : Lent) (setup : Setup) where
   unfolding pointers setupFor
   reset-refused n e h = step-refused l (reset su) n e h
 
-  pub reset-done : byteRefusal su l ≡ 0 → (R A C U N E : List ℕ) → R ≡ bytesOfAll 8 (wordsIn (fresh setup)) → Fresh su A C U N E
-      → reply 0 [] (lent R A C U N E) ≡ stepBytes l (reset su)
+  pub reset-done : byteRefusal su l ≡ 0 → (R A C U N E W : List ℕ) → R ≡ bytesOfAll 8 (wordsIn (fresh setup)) → Fresh su A C U N E W
+      → reply 0 [] (lent R A C U N E W) ≡ stepBytes l (reset su)
   unfolding stateOf setupFor
-  reset-done z R A C U N E e f =
+  reset-done z R A C U N E W e f =
       let tables = words-sized su l (long su l z) in
       let ok = sym (is-true (setupOk su) (setup-ok su (in-range su l z))) in
       laws.step-taken step pointers replyTo (λ k d. byteRefusal (setupFor k d) k) stateOf l (reset su) _ z
       (laws.answered step pointers replyTo l (stateOf l) (reset su) _
-      (reset-0 (stateOf l) su ok (sym (is-true (lengthsOk su (stateOf l)) (lengths-ok su (stateOf l) tables))) _ _ _ _ _ (record { active-is = refl; configured-is = refl; used-is = refl; counters-are = refl; events-are = refl }))
-      _ (ap (reply 0 []) (same-bytes (fresh setup) _ _ _ _ _ _ _ _ _ _ _ e (f .active-is) (f .configured-is) (f .used-is) (f .counters-are) (f .events-are))))
+      (reset-0 (stateOf l) su ok (sym (is-true (lengthsOk su (stateOf l)) (lengths-ok su (stateOf l) tables))) _ _ _ _ _ _ (record { active-is = refl; configured-is = refl; used-is = refl; counters-are = refl; events-are = refl; waiters-are = refl }))
+      _ (ap (reply 0 []) (same-bytes (fresh setup) _ _ _ _ _ _ _ _ _ _ _ _ _ e (f .active-is) (f .configured-is) (f .used-is) (f .counters-are) (f .events-are) (f .waiters-are))))

@@ -8,7 +8,7 @@ use Rattle.words.specs.Words.{wordsOf, bytesOfAll}
 use Rattle.replies.specs.Replies.{refusal}
 use Rattle.replies.proofs.Laws as laws
 use Rattle.bandwidth_model.specs.Rules.{Setup}
-use Rattle.bandwidth_model.specs.Calls.{Call, reset, read, write, request, deviceRequest, endWindow}
+use Rattle.bandwidth_model.specs.Calls.{Call, reset, read, write, request, deviceRequest, endWindow, wait, need}
 use Rattle.bandwidth_model.specs.Claim.{isReset}
 use Rattle.bandwidth_model.specs.Model.{State, Outcome, step}
 use Rattle.bandwidth.specs.declared.Record.{Record}
@@ -27,6 +27,8 @@ by-record l (write size offset v) t = refl
 by-record l (request rcid mcid at kind bytes) t = refl
 by-record l (deviceRequest mode word at kind bytes) t = refl
 by-record l endWindow t = refl
+by-record l (wait rcid mcid at kind bytes) t = refl
+by-record l (need rcid) t = refl
 
 module _ (l : Lent) (c : Call) where
   pub step-refused : (n : ℕ) → n ≡ byteRefusal (setupFor l c) l → (n ≡ 0 → ⊥) → refusal n (pointers c) l ≡ stepBytes l c
@@ -51,7 +53,7 @@ module _ (l : Lent) (r : Record) (w : wordsIn r ≡ wordsOf 8 12 (l .«record»)
       (laws.answered step pointers replyTo l (stateOf l) c o (e ∙ ap (λ (s : State). step s c) (state-held l r w)) p q)
 
 -- bytes that are those of a record's words and of the words of each table
-pub same-bytes : (r : Record) (a c u n e R A C U N E : List ℕ) → R ≡ bytesOfAll 8 (wordsIn r) → A ≡ bytesOfAll 4 a → C ≡ bytesOfAll 4 c → U ≡ bytesOfAll 4 u
-    → N ≡ bytesOfAll 8 n → E ≡ bytesOfAll 2 e → lent R A C U N E ≡ lentOf (state r a c u n e)
+pub same-bytes : (r : Record) (a c u n e w R A C U N E W : List ℕ) → R ≡ bytesOfAll 8 (wordsIn r) → A ≡ bytesOfAll 4 a → C ≡ bytesOfAll 4 c → U ≡ bytesOfAll 4 u
+    → N ≡ bytesOfAll 8 n → E ≡ bytesOfAll 2 e → W ≡ bytesOfAll 8 w → lent R A C U N E W ≡ lentOf (state r a c u n e w)
 unfolding lentOf
-same-bytes r a c u n e R A C U N E p q₁ q₂ q₃ q₄ q₅ = rw (p, q₁, q₂, q₃, q₄, q₅) refl
+same-bytes r a c u n e w R A C U N E W p q₁ q₂ q₃ q₄ q₅ q₆ = rw (p, q₁, q₂, q₃, q₄, q₅, q₆) refl

@@ -26,42 +26,44 @@ use Rattle.bandwidth_lent.specs.declared.check.Check.the-variants.{Passe
 abbrev pub Slice : Type 0
 Slice = Both (RefT (List ℕ)) (RefT (List ℕ))
 
-abbrev pub before : Slice → Slice → Slice → Slice → Slice → Slice → Lent
-before r active configured used counters events =
-    lent (r .entry .now) (active .entry .now) (configured .entry .now) (used .entry .now) (counters .entry .now) (events .entry .now)
+abbrev pub before : Slice → Slice → Slice → Slice → Slice → Slice → Slice → Lent
+before r active configured used counters events waiters =
+    lent (r .entry .now) (active .entry .now) (configured .entry .now) (used .entry .now) (counters .entry .now) (events .entry .now) (waiters .entry .now)
 
-abbrev pub after : Slice → Slice → Slice → Slice → Slice → Slice → Lent
-after r active configured used counters events =
-    lent (r .exit .now) (active .exit .now) (configured .exit .now) (used .exit .now) (counters .exit .now) (events .exit .now)
+abbrev pub after : Slice → Slice → Slice → Slice → Slice → Slice → Slice → Lent
+after r active configured used counters events waiters =
+    lent (r .exit .now) (active .exit .now) (configured .exit .now) (used .exit .now) (counters .exit .now) (events .exit .now) (waiters .exit .now)
 
 -- the words of the code's record
 abbrev pub wordsIn : Record → List ℕ
-wordsIn r = recordOf (state r [] [] [] [] [])
+wordsIn r = recordOf (state r [] [] [] [] [] [])
 
 -- the code's record with the words of the tables
 abbrev pub stateIn : Lent → Record → State
-stateIn l r = state r (tableOf 4 (l .active)) (tableOf 4 (l .configured)) (tableOf 4 (l .used)) (tableOf 8 (l .counters)) (tableOf 2 (l .events))
+stateIn l r = state r (tableOf 4 (l .active)) (tableOf 4 (l .configured)) (tableOf 4 (l .used)) (tableOf 8 (l .counters)) (tableOf 2 (l .events)) (tableOf 8 (l .waiters))
 
 -- each table has the bytes of its words
-pub record Tables (su : Setup) (active configured used counters events : List ℕ) : Type 0 where
+pub record Tables (su : Setup) (active configured used counters events waiters : List ℕ) : Type 0 where
   pub active-long : length active ≡ pairs su * 4
   pub configured-long : length configured ≡ pairs su * 4
   pub used-long : length used ≡ pairs su * 4
   pub counters-long : length counters ≡ su .nm * 8
   pub events-long : length events ≡ su .nm * 2
+  pub waiters-long : length waiters ≡ su .nr * 8
 
 -- and so does the record
 pub record Long (su : Setup) (l : Lent) : Type 0 where
   pub record-long : length (l .«record») ≡ recordLength
-  pub tables : Tables su (l .active) (l .configured) (l .used) (l .counters) (l .events)
+  pub tables : Tables su (l .active) (l .configured) (l .used) (l .counters) (l .events) (l .waiters)
 
 -- the tables that a reset leaves
-pub record Fresh (su : Setup) (active configured used counters events : List ℕ) : Type 0 where
+pub record Fresh (su : Setup) (active configured used counters events waiters : List ℕ) : Type 0 where
   pub active-is : active ≡ bytesOfAll 4 (resetTable su)
   pub configured-is : configured ≡ bytesOfAll 4 (resetTable su)
   pub used-is : used ≡ bytesOfAll 4 (replicate (pairs su) 0)
   pub counters-are : counters ≡ bytesOfAll 8 (replicate (su .nm) 0)
   pub events-are : events ≡ bytesOfAll 2 (replicate (su .nm) 0)
+  pub waiters-are : waiters ≡ bytesOfAll 8 (replicate (su .nr) 0)
 
 -- the record and the tables are the words of the bytes, both ways
 pub record Words (l : Lent) (r : Record) : Type 0 where
@@ -71,6 +73,7 @@ pub record Words (l : Lent) (r : Record) : Type 0 where
   pub used : Holds 4 (l .used) (tableOf 4 (l .used))
   pub counters : Holds 8 (l .counters) (tableOf 8 (l .counters))
   pub events : Holds 2 (l .events) (tableOf 2 (l .events))
+  pub waiters : Holds 8 (l .waiters) (tableOf 8 (l .waiters))
 
 -- checks 1 to 3 pass
 pub record Passing (l : Lent) (h : Held) : Type 0 where

@@ -2,6 +2,7 @@
 use crate::lent::record_refusal;
 use crate::record::load_record;
 use crate::sums::sum_bytes;
+use crate::waiters::waiters_ok;
 use bandwidth::Record;
 use bandwidth::Totals;
 use bandwidth_wellformed::LAST_EVENT;
@@ -29,10 +30,11 @@ pub fn checked(
     used: &[u8],
     counters: &[u8],
     events: &[u8],
+    waiters: &[u8],
 ) -> Check
-    ensures { λ r. ⌜ Checked (before «record» active configured used counters events) r ⌝ }
+    ensures { λ r. ⌜ Checked (before «record» active configured used counters events waiters) r ⌝ }
 {
-    let why = record_refusal(record, active, configured, used, counters, events);
+    let why = record_refusal(record, active, configured, used, counters, events, waiters);
     if why != 0 {
         return Check::Failed(why);
     }
@@ -48,7 +50,8 @@ pub fn checked(
     );
     let k = bandwidth_counters_ok(counters, setup.w as u32);
     let e = events_ok(events, setup.na as u16, LAST_EVENT);
-    let tables = tables_by(setup, sums, k, e);
+    let w = waiters_ok(setup, waiters);
+    let tables = tables_by(setup, sums, k, e, w);
     if given.state_ok(tables) {
         let totals = Totals {
             active: tables.active,

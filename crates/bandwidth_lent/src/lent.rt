@@ -16,8 +16,9 @@ pub fn byte_refusal(
     used: &[u8],
     counters: &[u8],
     events: &[u8],
+    waiters: &[u8],
 ) -> u64
-    ensures { λ r. ⌜ r ≡ byteRefusal (setupOf setup) (before «record» active configured used counters events) ⌝ }
+    ensures { λ r. ⌜ r ≡ byteRefusal (setupOf setup) (before «record» active configured used counters events waiters) ⌝ }
 {
     if record.len() != 96 {
         return 1;
@@ -25,11 +26,13 @@ pub fn byte_refusal(
     if setup.in_range() {
         let settings = setup.pairs() as usize * 4;
         let nm = setup.nm as usize;
+        let nr = setup.nr as usize;
         let fit = (active.len() == settings)
             & (configured.len() == settings)
             & (used.len() == settings)
             & (counters.len() == nm * 8)
-            & (events.len() == nm * 2);
+            & (events.len() == nm * 2)
+            & (waiters.len() == nr * 8);
         pick(fit, 0, 2)
     } else {
         1
@@ -44,12 +47,22 @@ pub fn record_refusal(
     used: &[u8],
     counters: &[u8],
     events: &[u8],
+    waiters: &[u8],
 ) -> u64
-    ensures { λ r. ⌜ r ≡ byteRefusal (stateOf (before «record» active configured used counters events) .setup) (before «record» active configured used counters events) ⌝ }
+    ensures { λ r. ⌜ r ≡ byteRefusal (stateOf (before «record» active configured used counters events waiters) .setup) (before «record» active configured used counters events waiters) ⌝ }
 {
     if record.len() == 96 {
         let setup = load_record(record).setup;
-        byte_refusal(setup, record, active, configured, used, counters, events)
+        byte_refusal(
+            setup,
+            record,
+            active,
+            configured,
+            used,
+            counters,
+            events,
+            waiters,
+        )
     } else {
         1
     }

@@ -4,6 +4,7 @@ mod lent;
 mod record;
 pub mod reset;
 mod sums;
+mod waiters;
 
 pub use check::Check;
 pub use check::Held;

@@ -46,15 +46,17 @@ fn reset_tables(
     used: &mut [u8],
     counters: &mut [u8],
     events: &mut [u8],
+    waiters: &mut [u8],
 )
-    requires { ⌜ Ranges (setupOf setup) × Tables (setupOf setup) (now active) (now configured) (now used) (now counters) (now events) ⌝ }
-    ensures { λ r. ⌜ Fresh (setupOf setup) (now (active .exit)) (now (configured .exit)) (now (used .exit)) (now (counters .exit)) (now (events .exit)) ⌝ }
+    requires { ⌜ Ranges (setupOf setup) × Tables (setupOf setup) (now active) (now configured) (now used) (now counters) (now events) (now waiters) ⌝ }
+    ensures { λ r. ⌜ Fresh (setupOf setup) (now (active .exit)) (now (configured .exit)) (now (used .exit)) (now (counters .exit)) (now (events .exit)) (now (waiters .exit)) ⌝ }
 {
     reset_table(setup, active);
     reset_table(setup, configured);
     clear8(used);
     clear8(counters);
     clear8(events);
+    clear8(waiters);
 }
 
 pub fn reset(
@@ -64,11 +66,21 @@ pub fn reset(
     used: &mut [u8],
     counters: &mut [u8],
     events: &mut [u8],
+    waiters: &mut [u8],
     setup: Setup,
 ) -> u64
-    ensures { λ r. ⌜ reply r [] (after «record» active configured used counters events) ≡ stepBytes (before «record» active configured used counters events) (reset (setupOf setup)) ⌝ }
+    ensures { λ r. ⌜ reply r [] (after «record» active configured used counters events waiters) ≡ stepBytes (before «record» active configured used counters events waiters) (reset (setupOf setup)) ⌝ }
 {
-    let number = byte_refusal(setup, record, active, configured, used, counters, events);
+    let number = byte_refusal(
+        setup,
+        record,
+        active,
+        configured,
+        used,
+        counters,
+        events,
+        waiters,
+    );
     if number != 0 {
         return number;
     }
@@ -81,6 +93,6 @@ pub fn reset(
         pool: 0,
     };
     store_record(fresh, record);
-    reset_tables(setup, active, configured, used, counters, events);
+    reset_tables(setup, active, configured, used, counters, events, waiters);
     0
 }

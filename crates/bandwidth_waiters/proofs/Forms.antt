@@ -6,7 +6,7 @@ use Prim.Native.Nat.{ℕ, _/_, _%_, _^_}
 use native.Mathlib.Nat.{mod-eq-of-lt, mod-lt}
 use lib.Bits.{and-mask}
 use lib.Dec.{T, eqb, eqb→eq, leb, ltb, ltb→lt, lt→ltb}
-use lib.ListN.{getD}
+use lib.ListN.{length, getD}
 use lib.Pow.{pow-pos}
 use Rattle.fields.specs.Layout.{namedBits}
 use Rattle.fields.specs.Registers as reg
@@ -14,8 +14,9 @@ use Rattle.fields.proofs.Laws.{pack-unpack}
 use Rattle.fields.proofs.Registers.{waiter-ordered}
 use Rattle.tables.specs.Below.{allBelow}
 use Rattle.tables.specs.View.{unionBelow}
-use Rattle.tables.proofs.Tests.{eqb-in, is-true, is-false, same-test}
-use Rattle.tables.proofs.Union.{none-bad, low-test}
+use Rattle.tables.proofs.Tests.{or-l, eqb-in, is-true, is-false, same-test}
+use Rattle.tables.proofs.Laws.{all-in}
+use Rattle.tables.proofs.Union.{union-zero, none-bad, low-test}
 use Rattle.access.specs.Checks.{_gives_, first}
 use Rattle.bandwidth_model.specs.Rules.{Setup}
 use Rattle.bandwidth_model.specs.Waiters.{needOf, waiterMcid, waiterAt, waiterOk}
@@ -44,6 +45,13 @@ badAt su t i = cond (waiterOk su (getD t i 0)) 0 1
 pub waiters-test : (su : Setup) (t : List ℕ) (n : ℕ) → eqb (unionBelow n (badAt su t)) 0 ≡ allBelow n (λ i. waiterOk su (getD t i 0))
 unfolding badAt
 waiters-test su t n = none-bad n 0 (λ i. waiterOk su (getD t i 0))
+
+-- where the union of all words is 0, none waits
+pub none-waits : (su : Setup) (t : List ℕ) → unionBelow (length t) (λ i. getD t i 0) ≡ 0 → true ≡ allBelow (length t) (λ i. waiterOk su (getD t i 0))
+unfolding waiterOk
+none-waits su t e =
+    sym (is-true (allBelow (length t) (λ i. waiterOk su (getD t i 0)))
+    (all-in (length t) (λ i. waiterOk su (getD t i 0)) (λ i l. or-l (eqb (getD t i 0) 0) _ (eqb-in (getD t i 0) 0 (union-zero (length t) (λ k. getD t k 0) e i l)))))
 
 -- ---- a request that is put to wait
 

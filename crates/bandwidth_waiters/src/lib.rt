@@ -15,6 +15,7 @@ pub use service::weights_of;
 use tables::least;
 use tables::pick;
 use tables::word32;
+pub use words::bad_waiter;
 pub use words::need_of;
 pub use words::put_word;
 pub use words::served_word;

@@ -23,6 +23,9 @@ mul-fit c = let r : Ranges (setupOf _) = ranges _ (of-true (sym (c .before .befo
 mul-fit-2 : tie.Need-mul-fit-2
 mul-fit-2 c = let r : Ranges (setupOf _) = ranges _ (of-true (sym (c .before .before .in-range .ensures) ∙ c .before .if2 .taken)) in record { fits = omega (arith, r .nm-high) }
 
+mul-fit-3 : tie.Need-mul-fit-3
+mul-fit-3 c = let r : Ranges (setupOf _) = ranges _ (of-true (sym (c .before .before .in-range .ensures) ∙ c .before .if2 .taken)) in record { fits = omega (arith, r .nr-high) }
+
 returns-2 : tie.Need-returns-2
 unfolding bytesFit
 returns-2 c =
@@ -32,4 +35,4 @@ returns-3 : tie.Need-returns-3
 returns-3 c = wrong-setup _ _ (c .before .before .if1 .left) (sym (c .before .in-range .ensures) ∙ c .if2 .left)
 
 pub byte-refusal-spec : {M : Type 1} → statement M
-byte-refusal-spec = tie.close (tie.spec returns (λ c κs. search needs) pairs-requires (λ c. search needs) mul-fit mul-fit-2 (λ c κs. search needs) returns-2 returns-3)
+byte-refusal-spec = tie.close (tie.spec returns (λ c κs. search needs) pairs-requires (λ c. search needs) mul-fit mul-fit-2 mul-fit-3 (λ c κs. search needs) returns-2 returns-3)

@@ -13,13 +13,12 @@ store-record-requires : tie.Need-store-record-requires
 store-record-requires c κs = long _ _ (sym (c .before .before .byte-refusal .ensures) ∙ c .before .if1 .left) .record-long
 
 reset-tables-requires : tie.Need-reset-tables-requires
-reset-tables-requires c κs = let z = sym (c .before .before .before .before .before .before .before .before .before .before .byte-refusal .ensures) ∙ c .before .before .before .before .before .before .before .before .before .if1 .left in (in-range _ _ z, long _ _ z .tables)
+reset-tables-requires c κs = let z = sym (c .before .before .before .before .before .before .before .before .before .before .before .byte-refusal .ensures) ∙ c .before .before .before .before .before .before .before .before .before .before .if1 .left in (in-range _ _ z, long _ _ z .tables)
 
 returns-2 : tie.Need-returns-2
-returns-2 c = reset-done _ _ (sym (c .before .before .before .before .before .before .before .before .before .before .before .before .before .before .before .before .before .before .before .before .before .byte-refusal .ensures) ∙ c .before .before .before .before .before .before .before .before .before .before .before .before .before .before .before .before .before .before .before .before .if1 .left) _ _ _ _ _ _ (c .before .before .before .before .before .before .before .before .before .before .before .before .before .before .before .before .before .before .store-record .ensures) (c .before .before .before .before .before .before .before .before .before .before .reset-tables .ensures)
+returns-2 c = reset-done _ _ (sym (c .before .before .before .before .before .before .before .before .before .before .before .before .before .before .before .before .before .before .before .before .before .before .before .before .byte-refusal .ensures) ∙ c .before .before .before .before .before .before .before .before .before .before .before .before .before .before .before .before .before .before .before .before .before .before .before .if1 .left) _ _ _ _ _ _ _ (c .before .before .before .before .before .before .before .before .before .before .before .before .before .before .before .before .before .before .before .before .before .store-record .ensures) (c .before .before .before .before .before .before .before .before .before .before .before .before .reset-tables .ensures)
 
 pub reset-spec : {M : Type 1} → statement M
 reset-spec =
     tie.close
-    (tie.spec (λ c κs. search needs) (λ c. search needs) (λ c. search needs) (λ c. search needs) (λ c. search needs) (λ c. search needs) (λ c. search needs) returns store-record-requires reset-tables-requires
-    (λ c. search needs) (λ c. search needs) (λ c. search needs) (λ c. search needs) (λ c. search needs) (λ c. search needs) returns-2)
+    (tie.spec (λ c κs. search needs) (λ c. search needs) (λ c. search needs) (λ c. search needs) (λ c. search needs) (λ c. search needs) (λ c. search needs) (λ c. search needs) returns store-record-requires reset-tables-requires (λ c. search needs) (λ c. search needs) (λ c. search needs) (λ c. search needs) (λ c. search needs) (λ c. search needs) (λ c. search needs) returns-2)

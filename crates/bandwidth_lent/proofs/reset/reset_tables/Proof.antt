@@ -15,18 +15,18 @@ zeros k n old e l = e ∙ ap (λ (m : ℕ). replicate m 0) l ∙ sym (zero-bytes
 
 returns : tie.Need-returns
 returns c =
-    let s = c .before .before .before .before .before .before .before .before .before .before .before .before .before .before .before .before .before .before .before .before .before .before .before .before .before in
+    let s = c .before .before .before .before .before .before .before .before .before .before .before .before .before .before .before .before .before .before .before .before .before .before .before .before .before .before .before .before .before .before in
     let l = s .pre .1 in
     record {
-      active-is = c .before .before .before .before .before .before .before .before .before .before .before .before .before .before .before .before .before .before .reset-table .ensures;
-      configured-is = c .before .before .before .before .before .before .before .before .before .before .before .before .before .before .reset-table2 .ensures;
-      used-is = zeros 4 _ (s .args .used .now) (c .before .before .before .before .before .before .before .before .before .before .clear8 .ensures) (l .used-long);
-      counters-are = zeros 8 _ (s .args .counters .now) (c .before .before .before .before .before .before .clear82 .ensures) (l .counters-long);
-      events-are = zeros 2 _ (s .args .events .now) (c .before .before .clear83 .ensures) (l .events-long);
+      active-is = c .before .before .before .before .before .before .before .before .before .before .before .before .before .before .before .before .before .before .before .before .before .before .reset-table .ensures;
+      configured-is = c .before .before .before .before .before .before .before .before .before .before .before .before .before .before .before .before .before .before .reset-table2 .ensures;
+      used-is = zeros 4 _ (s .args .used .now) (c .before .before .before .before .before .before .before .before .before .before .before .before .before .before .clear8 .ensures) (l .used-long);
+      counters-are = zeros 8 _ (s .args .counters .now) (c .before .before .before .before .before .before .before .before .before .before .clear82 .ensures) (l .counters-long);
+      events-are = zeros 2 _ (s .args .events .now) (c .before .before .before .before .before .before .clear83 .ensures) (l .events-long);
+      waiters-are = zeros 8 _ (s .args .waiters .now) (c .before .before .clear84 .ensures) (l .waiters-long);
     }
 
 pub reset-tables-spec : {M : Type 1} → statement M
 reset-tables-spec =
     tie.close
-    (tie.spec (λ c κs. search needs) (λ c κs. search needs) (λ c κs. search needs) (λ c κs. search needs) (λ c κs. search needs) (λ c. search needs) (λ c. search needs) (λ c. search needs) (λ c. search needs)
-    (λ c. search needs) returns)
+    (tie.spec (λ c κs. search needs) (λ c κs. search needs) (λ c κs. search needs) (λ c κs. search needs) (λ c κs. search needs) (λ c. search needs) (λ c. search needs) (λ c. search needs) (λ c. search needs) (λ c. search needs) (λ c. search needs) (λ c. search needs) returns)
