@@ -2,7 +2,7 @@
 use mathlib.Core.Path.{_≡_, refl, ap, subst, _∙_}
 use mathlib.Core.Bool.{true, false, not, cond, _||_}
 use mathlib.Core.List.{List, [], _∷_}
-use Prim.Native.Nat.{ℕ, _-_}
+use Prim.Native.Nat.{ℕ, _-_, _≤_, _<_}
 use native.Mathlib.Omega.{arith}
 use lib.Dec.{T, leb, lit<}
 use lib.ListN.{length, getD, set, replicate}
@@ -29,15 +29,19 @@ use Rattle.bandwidth_settings.specs.declared.Written.{Written}
 use Rattle.bandwidth_grants.specs.declared.Given.{Given}
 use Rattle.replies.specs.Replies.{reply, refusal}
 use Rattle.bandwidth_model.specs.Rules.{Setup, pairs, bwWord}
-use Rattle.bandwidth_model.specs.Calls.{Call, read, write, request, deviceRequest, endWindow, refused, done, value, granted}
+use Rattle.bandwidth_model.specs.Calls.{Call, read, write, request, deviceRequest, endWindow, wait, need, refused, done, value, granted}
 use Rattle.bandwidth_model.specs.Claim.{isReset}
 use Rattle.bandwidth_model.specs.View.{Requests}
-use Rattle.bandwidth_model.specs.Model.{State, writeAlloc, writeAt, step}
+use Rattle.bandwidth_model.specs.Waiters.{needAt, putWord}
+use Rattle.bandwidth_model.specs.Model.{State, waitChecks, writeAlloc, writeAt, step}
 use Rattle.bandwidth_model.proofs.Devices.{request-is, device-is}
 use Rattle.bandwidth_setup.specs.View.{setupOf}
 use Rattle.bandwidth.specs.declared.Record.{Record}
 use Rattle.bandwidth.specs.View.{outcome, readingOf}
 use Rattle.bandwidth.proofs.Calls as bandwidth
+use Rattle.bandwidth.proofs.Windows.{window-opens, window-went}
+use Rattle.bandwidth_waiters.specs.Turns as turns
+use Rattle.bandwidth_waiters.proofs.Windows.{Went}
 use Rattle.bandwidth.proofs.Calls.{end-done, request-unknown, request-done, known-rcid, request-fits, serve-row, write-alloc-at, write-bw-at, write-mon-at, write-none}
 use Rattle.bandwidth_lent.specs.Bytes.{Lent, lent, lentOf, pointers, stepBytes}
 use Rattle.bandwidth_lent.specs.View.{wordsIn, stateIn, Tables, Passing, Checked}
@@ -46,6 +50,7 @@ use Rattle.bandwidth_lent.specs.declared.check.Check.{Check}
 use Rattle.bandwidth_lent.specs.declared.check.Check.the-variants.{Passed, Failed}
 use Rattle.bandwidth_lent.proofs.Steps.{answered, same-bytes}
 use Rattle.bandwidth_bytes.specs.View.{Asks, GiveFits, Gave, Stores}
+use Rattle.bandwidth_bytes.specs.Service.{Turned}
 
 -- ---- what the checks found
 
@@ -65,7 +70,7 @@ module _ {l : Lent} {h : Held} (p : Passing l h) where
   kept : l ≡ lentOf s
   kept =
       let w = p .words in
-      same-bytes (h .«record») _ _ _ _ _ _ _ _ _ _ _ (w .«record» .bytes-are) (w .active .bytes-are) (w .configured .bytes-are) (w .used .bytes-are) (w .counters .bytes-are) (w .events .bytes-are)
+      same-bytes (h .«record») _ _ _ _ _ _ _ _ _ _ _ _ _ (w .«record» .bytes-are) (w .active .bytes-are) (w .configured .bytes-are) (w .used .bytes-are) (w .counters .bytes-are) (w .events .bytes-are) (w .waiters .bytes-are)
 
   module _ (c : Call) (t : T (not (isReset c))) where
     -- a refusal by a later check
@@ -98,7 +103,7 @@ module _ {l : Lent} {h : Held} (p : Passing l h) where
   abbrev su : Setup
   su = setupOf (h .«record» .setup)
 
-  abbrev tables : Tables su (l .active) (l .configured) (l .used) (l .counters) (l .events)
+  abbrev tables : Tables su (l .active) (l .configured) (l .used) (l .counters) (l .events) (l .waiters)
   tables = p .long .tables
 
   module _ (size offset : ℕ) {r : Reading} (o : outcome (readingOf r) (stateIn l (h .«record»)) ≡ step (stateIn l (h .«record»)) (read size offset)) where
@@ -109,15 +114,40 @@ module _ {l : Lent} {h : Held} (p : Passing l h) where
     pub read-value : (v : ℕ) → r ≡ reading.Value v → reply 0 (v ∷ []) l ≡ stepBytes l (read size offset)
     read-value v e = value-then p (read size offset) tt v (rw e at o)
 
-  -- a window end: the configured bytes come into force, nothing is used
-  pub window-ended : (R A U : List ℕ) → R ≡ withWord 8 (l .«record») 11 0 → A ≡ l .configured → U ≡ replicate (length (l .used)) 0
-      → reply 0 [] (lent R A (l .configured) U (l .counters) (l .events)) ≡ stepBytes l endWindow
-  window-ended R A U r a u =
-      let w = p .words in
-      let none : U ≡ bytesOfAll 4 (replicate (pairs su) 0) = rw (u, tables .used-long, zero-bytes) refl in
-      done-then p endWindow tt _ _ (end-done (p .passes) (tableOf 4 (l .configured)) (replicate (pairs su) 0) refl refl)
-      (same-bytes _ _ _ _ _ _ _ _ _ _ _ _ (r ∙ put-held 8 (lit< tt) 11 0 (l .«record») (wordsIn (h .«record»)) (w .«record»)) (a ∙ w .configured .bytes-are) (w .configured .bytes-are) none
-      (w .counters .bytes-are) (w .events .bytes-are))
+  -- a window end: the configured bytes come into force, and the bytes of x are left
+  pub window-ended : {x : turns.Tables} (R A U N W : List ℕ) {pool : ℕ} → R ≡ withWord 8 (l .«record») 11 pool → A ≡ l .configured → Turned x U pool N W
+      → Went (window-opens (p .passes)) (stateIn l (h .«record») .monitor) (su .nr) x → reply 0 [] (lent R A (l .configured) U N (l .events) W) ≡ stepBytes l endWindow
+  window-ended R A U N W {pool} r a t w =
+      let b = p .words in
+      done-then p endWindow tt _ _ (end-done (p .passes) _ (window-went (p .passes) refl w))
+      (same-bytes _ _ _ _ _ _ _ _ _ _ _ _ _ _ (r ∙ put-held 8 (lit< tt) 11 pool (l .«record») (wordsIn (h .«record»)) (b .«record») ∙ ap (λ (n : ℕ). bytesOfAll 8 (set (wordsIn (h .«record»)) 11 n)) (t .pool-is))
+      (a ∙ b .configured .bytes-are) (b .configured .bytes-are) (t .used-are) (t .counters-are) (b .events .bytes-are) (t .waiters-are))
+
+  -- ---- requests that wait
+
+  module _ (rcid : ℕ) where
+    pub need-refused : su .nr ≤ rcid → reply 7 (0 ∷ []) l ≡ stepBytes l (need rcid)
+    unfolding pointers
+    need-refused e = refused-then p (need rcid) tt 7 (bandwidth.need-refused (p .passes) rcid e)
+
+    pub need-done : {v : ℕ} → rcid < su .nr → v ≡ needAt (tableOf 8 (l .waiters)) rcid → reply 0 (v ∷ []) l ≡ stepBytes l (need rcid)
+    need-done {v} e q = value-then p (need rcid) tt v (bandwidth.need-done (p .passes) rcid e q)
+
+  module _ (rcid mcid at kind bytes : ℕ) where
+    abbrev judged : ℕ
+    judged = first (waitChecks su (tableOf 8 (l .waiters)) rcid mcid bytes) 0
+
+    pub wait-refused : (why : Refusal) (n : ℕ) → numberOf why ≡ judged → n ≡ numberOf why → reply n [] l ≡ stepBytes l (wait rcid mcid at kind bytes)
+    unfolding pointers
+    wait-refused why n e i = rw i (refused-then p (wait rcid mcid at kind bytes) tt (numberOf why) (bandwidth.wait-refused (p .passes) rcid mcid at kind bytes why e))
+
+    pub wait-done : {word : ℕ} (W : List ℕ) → 0 ≡ judged → word ≡ putWord su mcid at kind bytes → W ≡ withWord 8 (l .waiters) rcid word
+        → reply 0 [] (lent (l .«record») (l .active) (l .configured) (l .used) (l .counters) (l .events) W) ≡ stepBytes l (wait rcid mcid at kind bytes)
+    wait-done {word} W e f g =
+        let b = p .words in
+        done-then p (wait rcid mcid at kind bytes) tt _ _ (bandwidth.wait-done (p .passes) rcid mcid at kind bytes e f refl)
+        (same-bytes (h .«record») _ _ _ _ _ _ _ _ _ _ _ _ _ (b .«record» .bytes-are) (b .active .bytes-are) (b .configured .bytes-are) (b .used .bytes-are) (b .counters .bytes-are) (b .events .bytes-are)
+        (g ∙ put-held 8 (lit< tt) rcid word (l .waiters) (tableOf 8 (l .waiters)) (b .waiters)))
 
   -- ---- requests
 
@@ -141,13 +171,13 @@ module _ {l : Lent} {h : Held} (p : Passing l h) where
           → R ≡ withWord 8 (l .«record») 11 (r .pool)
           → ((ns es : List ℕ) → Holds 8 (l .counters) ns → Holds 2 (l .events) es
           → N ≡ bytesOfAll 8 (cond (countsRequest (getD es mcid 0) a kind) (set ns mcid (added (su .w) (r .sum) (getD ns mcid 0))) ns))
-          → (c : Call) (m : ℕ) → Requests c m rcid mcid at kind bytes → reply 0 (r .grant .reserved ∷ r .grant .pool ∷ []) (lent R (l .active) (l .configured) U N (l .events)) ≡ stepBytes l c
+          → (c : Call) (m : ℕ) → Requests c m rcid mcid at kind bytes → reply 0 (r .grant .reserved ∷ r .grant .pool ∷ []) (lent R (l .active) (l .configured) U N (l .events) (l .waiters)) ≡ stepBytes l c
       served {r} g q n c m i =
           let x = p .words in
           granted-then p c (i .no-reset) (r .grant .reserved) (r .grant .pool) _ _
           (request-done (p .passes) i e _ (serve-row (p .passes) at bytes (known-rcid (su .nr) (su .nm) rcid mcid e) k w mcid kind (g .given) refl))
-          (same-bytes _ _ _ _ _ _ _ _ _ _ _ _ (q ∙ put-held 8 (lit< tt) 11 (r .pool) (l .«record») (wordsIn (h .«record»)) (x .«record»)) (x .active .bytes-are) (x .configured .bytes-are)
-          (g .bytes-are (x .used .bytes-are)) (n _ _ (x .counters) (x .events)) (x .events .bytes-are))
+          (same-bytes _ _ _ _ _ _ _ _ _ _ _ _ _ _ (q ∙ put-held 8 (lit< tt) 11 (r .pool) (l .«record») (wordsIn (h .«record»)) (x .«record»)) (x .active .bytes-are) (x .configured .bytes-are)
+          (g .bytes-are (x .used .bytes-are)) (n _ _ (x .counters) (x .events)) (x .events .bytes-are) (x .waiters .bytes-are))
 
   -- ---- writes
 
@@ -156,10 +186,10 @@ module _ {l : Lent} {h : Held} (p : Passing l h) where
     unfolding pointers
     write-refused why n e i = rw i (refused-then p (write size offset v) tt (numberOf why) (bandwidth.write-refused (p .passes) size offset v why e))
 
-    pub written : (r : Record) (R A C U N E : List ℕ) → 0 ≡ first (writeChecks registersEnd size offset v) 0 → R ≡ bytesOfAll 8 (wordsIn r)
-        → lent (bytesOfAll 8 (wordsIn r)) A C U N E ≡ lentOf (writeAt (stateIn l (h .«record»)) offset v) → reply 0 [] (lent R A C U N E) ≡ stepBytes l (write size offset v)
-    written r R A C U N E e q b =
-        done-then p (write size offset v) tt _ _ (bandwidth.write-done (p .passes) size offset v _ e refl) (ap (λ (x : List ℕ). lent x A C U N E) q ∙ b)
+    pub written : (r : Record) (R A C U N E W : List ℕ) → 0 ≡ first (writeChecks registersEnd size offset v) 0 → R ≡ bytesOfAll 8 (wordsIn r)
+        → lent (bytesOfAll 8 (wordsIn r)) A C U N E W ≡ lentOf (writeAt (stateIn l (h .«record»)) offset v) → reply 0 [] (lent R A C U N E W) ≡ stepBytes l (write size offset v)
+    written r R A C U N E W e q b =
+        done-then p (write size offset v) tt _ _ (bandwidth.write-done (p .passes) size offset v _ e refl) (ap (λ (x : List ℕ). lent x A C U N E W) q ∙ b)
 
   module _ (offset v : ℕ) where
     abbrev old : Record
@@ -170,34 +200,34 @@ module _ {l : Lent} {h : Held} (p : Passing l h) where
 
     pub alloc-written : {r : Written} {C : List ℕ} → offset ≡ 24 → Stores (writeAlloc su (old .«bw_alloc») (tableOf 4 (l .configured)) v) r C
         → lent (bytesOfAll 8 (wordsIn (record { setup = old .setup; «mon_ctl» = old .«mon_ctl»; «mon_ctr_val» = old .«mon_ctr_val»; «alloc_ctl» = r .ctl; «bw_alloc» = r .bw; pool = old .pool })))
-        (l .active) C (l .used) (l .counters) (l .events) ≡ lentOf left
+        (l .active) C (l .used) (l .counters) (l .events) (l .waiters) ≡ lentOf left
     alloc-written {r} {C} e s =
         let x = p .words in
-        same-bytes _ _ _ _ _ _ _ _ _ _ _ _ refl (x .active .bytes-are) (s .bytes-are) (x .used .bytes-are) (x .counters .bytes-are) (x .events .bytes-are)
+        same-bytes _ _ _ _ _ _ _ _ _ _ _ _ _ _ refl (x .active .bytes-are) (s .bytes-are) (x .used .bytes-are) (x .counters .bytes-are) (x .events .bytes-are) (x .waiters .bytes-are)
         ∙ ap lentOf (write-alloc-at (stateIn l old) offset v _ e (rw (s .ctl-is, s .bw-is) refl))
 
     pub bw-written : {w : ℕ} → offset ≡ 32 → w ≡ bwWord v
         → lent (bytesOfAll 8 (wordsIn (record { setup = old .setup; «mon_ctl» = old .«mon_ctl»; «mon_ctr_val» = old .«mon_ctr_val»; «alloc_ctl» = old .«alloc_ctl»; «bw_alloc» = w; pool = old .pool })))
-        (l .active) (l .configured) (l .used) (l .counters) (l .events) ≡ lentOf left
+        (l .active) (l .configured) (l .used) (l .counters) (l .events) (l .waiters) ≡ lentOf left
     bw-written {w} e q =
         let x = p .words in
-        same-bytes _ _ _ _ _ _ _ _ _ _ _ _ refl (x .active .bytes-are) (x .configured .bytes-are) (x .used .bytes-are) (x .counters .bytes-are) (x .events .bytes-are)
+        same-bytes _ _ _ _ _ _ _ _ _ _ _ _ _ _ refl (x .active .bytes-are) (x .configured .bytes-are) (x .used .bytes-are) (x .counters .bytes-are) (x .events .bytes-are) (x .waiters .bytes-are)
         ∙ ap lentOf (write-bw-at (stateIn l old) offset v w e q)
 
     pub mon-written : {st : ℕ} {r : Registers} {N E : List ℕ} → offset ≡ 8 → Small (monStatus (su .na) (su .nm) lastEvent v) 5 st
         → ((ns es : List ℕ) → Holds 8 (l .counters) ns → Holds 2 (l .events) es
         → monitor.Stores (monAfter (su .na) st (monitorOf (record { ctl = old .«mon_ctl»; value = old .«mon_ctr_val» }) ns es) v) r N E)
         → lent (bytesOfAll 8 (wordsIn (record { setup = old .setup; «mon_ctl» = r .ctl; «mon_ctr_val» = r .value; «alloc_ctl» = old .«alloc_ctl»; «bw_alloc» = old .«bw_alloc»; pool = old .pool })))
-        (l .active) (l .configured) (l .used) N E ≡ lentOf left
+        (l .active) (l .configured) (l .used) N E (l .waiters) ≡ lentOf left
     mon-written e i q =
         let x = p .words in
         let s = q _ _ (x .counters) (x .events) in
-        same-bytes _ _ _ _ _ _ _ _ _ _ _ _ refl (x .active .bytes-are) (x .configured .bytes-are) (x .used .bytes-are) (s .counters-are) (s .events-are)
+        same-bytes _ _ _ _ _ _ _ _ _ _ _ _ _ _ refl (x .active .bytes-are) (x .configured .bytes-are) (x .used .bytes-are) (s .counters-are) (s .events-are) (x .waiters .bytes-are)
         ∙ ap lentOf (write-mon-at (stateIn l old) offset v _ _ e i (rw (s .ctl-is, s .value-is) refl))
 
     pub none-written : (offset ≡ 24 → ⊥) → (offset ≡ 32 → ⊥) → (offset ≡ 8 → ⊥)
-        → lent (bytesOfAll 8 (wordsIn old)) (l .active) (l .configured) (l .used) (l .counters) (l .events) ≡ lentOf left
+        → lent (bytesOfAll 8 (wordsIn old)) (l .active) (l .configured) (l .used) (l .counters) (l .events) (l .waiters) ≡ lentOf left
     none-written a b c =
         let x = p .words in
-        same-bytes _ _ _ _ _ _ _ _ _ _ _ _ refl (x .active .bytes-are) (x .configured .bytes-are) (x .used .bytes-are) (x .counters .bytes-are) (x .events .bytes-are)
+        same-bytes _ _ _ _ _ _ _ _ _ _ _ _ _ _ refl (x .active .bytes-are) (x .configured .bytes-are) (x .used .bytes-are) (x .counters .bytes-are) (x .events .bytes-are) (x .waiters .bytes-are)
         ∙ ap lentOf (write-none (stateIn l old) offset v a b c)

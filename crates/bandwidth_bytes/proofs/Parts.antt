@@ -13,6 +13,7 @@ use Rattle.bandwidth_settings.specs.View.{Ready}
 use Rattle.bandwidth_settings.specs.declared.Written.{Written}
 use Rattle.bandwidth_settings.proofs.Rows.{row-write}
 use Rattle.bandwidth_grants.specs.Grants.{RowFits, RowGiven}
+use Rattle.bandwidth_waiters.specs.Served.{RowOpens, RowServed}
 use Rattle.bandwidth_bytes.specs.View.{Wrote, Stores}
 
 -- stored back
@@ -40,3 +41,12 @@ alloc-stored {bw = bw} {v = v} p w ws h ready =
       bw-is = ap (λ (a : Allocation). a .bw) e;
       bytes-are = w .bytes-are (rw (← h .words-are) (h .bytes-are)) ∙ rw (← h .words-are) (ap (λ (a : Allocation). bytesOfAll 4 (a .configured)) e);
     }
+
+-- ---- a waiter
+
+pub opens-loaded : {su : Setup} {size pool need : ℕ} {u u′ : List ℕ} → u ≡ u′ → RowOpens su u′ pool size need → RowOpens su u pool size need
+opens-loaded y w = rw y w
+
+pub served-loaded : {su : Setup} {size weights pool at need : ℕ} {a u a′ u′ : List ℕ} → a ≡ a′ → u ≡ u′ → {left : List ℕ} {g : Grant} {sum gave : ℕ}
+    → RowServed su size weights a u pool at need left g sum gave → RowServed su size weights a′ u′ pool at need left g sum gave
+served-loaded x y w = rw (← x, ← y) w

@@ -18,12 +18,13 @@ pub fn read(
     used: &[u8],
     counters: &[u8],
     events: &[u8],
+    waiters: &[u8],
     size: u64,
     offset: u64,
 ) -> Answer
-    ensures { λ r. ⌜ reply (r .number) (r .value ∷ []) (after «record» active configured used counters events) ≡ stepBytes (before «record» active configured used counters events) (read size offset) ⌝ }
+    ensures { λ r. ⌜ reply (r .number) (r .value ∷ []) (after «record» active configured used counters events waiters) ≡ stepBytes (before «record» active configured used counters events waiters) (read size offset) ⌝ }
 {
-    match checked(record, active, configured, used, counters, events) {
+    match checked(record, active, configured, used, counters, events, waiters) {
         Check::Failed(number) => Answer { number, value: 0 },
         Check::Passed(held) => {
             let given = held.record;

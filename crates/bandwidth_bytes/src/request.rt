@@ -96,16 +96,17 @@ fn serve(
     used: &mut [u8],
     counters: &mut [u8],
     events: &[u8],
+    waiters: &[u8],
     rcid: u64,
     mcid: u64,
     at: u64,
     kind: u64,
     bytes: u32,
 ) -> Grant
-    requires { ⌜ Passing (lent (now «record») (now active) (now configured) (now used) (now counters) (now events)) held
+    requires { ⌜ Passing (lent (now «record») (now active) (now configured) (now used) (now counters) (now events) (now waiters)) held
         × ((leb (held .«record» .setup .nr) rcid || leb (held .«record» .setup .nm) mcid) ≡ false) ⌝ }
     ensures { λ r. ⌜ ((c : Call) (n : ℕ) → Requests c n rcid mcid at kind bytes
-        → reply 0 (r .reserved ∷ r .pool ∷ []) (after «record» active configured used counters events) ≡ stepBytes (before «record» active configured used counters events) c) ⌝ }
+        → reply 0 (r .reserved ∷ r .pool ∷ []) (after «record» active configured used counters events waiters) ≡ stepBytes (before «record» active configured used counters events waiters) c) ⌝ }
 {
     let given = held.record;
     let totals = held.totals;
@@ -137,6 +138,7 @@ fn request_by(
     used: &mut [u8],
     counters: &mut [u8],
     events: &[u8],
+    waiters: &[u8],
     rcid: u64,
     mcid: u64,
     unknown: Refusal,
@@ -145,13 +147,13 @@ fn request_by(
     bytes: u32,
 ) -> Served
     ensures { λ r. ⌜ ((c : Call) → Asks c (numberOf unknown) rcid mcid at kind bytes
-        → reply (r .number) (r .grant .reserved ∷ r .grant .pool ∷ []) (after «record» active configured used counters events) ≡ stepBytes (before «record» active configured used counters events) c) ⌝ }
+        → reply (r .number) (r .grant .reserved ∷ r .grant .pool ∷ []) (after «record» active configured used counters events waiters) ≡ stepBytes (before «record» active configured used counters events waiters) c) ⌝ }
 {
     let none = Grant {
         reserved: 0,
         pool: 0,
     };
-    match checked(record, active, configured, used, counters, events) {
+    match checked(record, active, configured, used, counters, events, waiters) {
         Check::Failed(number) => Served {
             number,
             grant: none,
@@ -173,6 +175,7 @@ fn request_by(
                 used,
                 counters,
                 events,
+                waiters,
                 rcid,
                 mcid,
                 at,
@@ -191,13 +194,14 @@ pub fn request(
     used: &mut [u8],
     counters: &mut [u8],
     events: &[u8],
+    waiters: &[u8],
     rcid: u64,
     mcid: u64,
     at: u64,
     kind: u64,
     bytes: u32,
 ) -> Served
-    ensures { λ r. ⌜ reply (r .number) (r .grant .reserved ∷ r .grant .pool ∷ []) (after «record» active configured used counters events) ≡ stepBytes (before «record» active configured used counters events) (request rcid mcid at kind bytes) ⌝ }
+    ensures { λ r. ⌜ reply (r .number) (r .grant .reserved ∷ r .grant .pool ∷ []) (after «record» active configured used counters events waiters) ≡ stepBytes (before «record» active configured used counters events waiters) (request rcid mcid at kind bytes) ⌝ }
 {
     request_by(
         record,
@@ -206,6 +210,7 @@ pub fn request(
         used,
         counters,
         events,
+        waiters,
         rcid,
         mcid,
         Refusal::Identifier,
@@ -223,13 +228,14 @@ pub fn device_request(
     used: &mut [u8],
     counters: &mut [u8],
     events: &[u8],
+    waiters: &[u8],
     mode: u64,
     word: u64,
     at: u64,
     kind: u64,
     bytes: u32,
 ) -> Served
-    ensures { λ r. ⌜ reply (r .number) (r .grant .reserved ∷ r .grant .pool ∷ []) (after «record» active configured used counters events) ≡ stepBytes (before «record» active configured used counters events) (deviceRequest mode word at kind bytes) ⌝ }
+    ensures { λ r. ⌜ reply (r .number) (r .grant .reserved ∷ r .grant .pool ∷ []) (after «record» active configured used counters events waiters) ≡ stepBytes (before «record» active configured used counters events waiters) (deviceRequest mode word at kind bytes) ⌝ }
 {
     let ids = identifiers_in(mode, word);
     request_by(
@@ -239,6 +245,7 @@ pub fn device_request(
         used,
         counters,
         events,
+        waiters,
         ids.rcid,
         ids.mcid,
         out_of_range(mode),

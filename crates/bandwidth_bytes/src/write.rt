@@ -81,12 +81,13 @@ fn store(
     used: &[u8],
     counters: &mut [u8],
     events: &mut [u8],
+    waiters: &[u8],
     offset: u64,
     value: u64,
 ) -> Record
-    requires { ⌜ Passing (lent (now «record») (now active) (now configured) (now used) (now counters) (now events)) held ⌝ }
-    ensures { λ r. ⌜ lent (bytesOfAll 8 (wordsIn r)) (active .entry .now) (configured .exit .now) (used .entry .now) (counters .exit .now) (events .exit .now)
-        ≡ lentOf (writeAt (stateIn (before «record» active configured used counters events) (held .«record»)) offset value) ⌝ }
+    requires { ⌜ Passing (lent (now «record») (now active) (now configured) (now used) (now counters) (now events) (now waiters)) held ⌝ }
+    ensures { λ r. ⌜ lent (bytesOfAll 8 (wordsIn r)) (active .entry .now) (configured .exit .now) (used .entry .now) (counters .exit .now) (events .exit .now) (waiters .exit .now)
+        ≡ lentOf (writeAt (stateIn (before «record» active configured used counters events waiters) (held .«record»)) offset value) ⌝ }
 {
     let mut next = held.record;
     let totals = held.totals;
@@ -122,13 +123,14 @@ pub fn write(
     used: &[u8],
     counters: &mut [u8],
     events: &mut [u8],
+    waiters: &[u8],
     size: u64,
     offset: u64,
     value: u64,
 ) -> u64
-    ensures { λ r. ⌜ reply r [] (after «record» active configured used counters events) ≡ stepBytes (before «record» active configured used counters events) (write size offset value) ⌝ }
+    ensures { λ r. ⌜ reply r [] (after «record» active configured used counters events waiters) ≡ stepBytes (before «record» active configured used counters events waiters) (write size offset value) ⌝ }
 {
-    match checked(record, active, configured, used, counters, events) {
+    match checked(record, active, configured, used, counters, events, waiters) {
         Check::Failed(number) => number,
         Check::Passed(held) => match write_verdict(size, offset, value) {
             Verdict::Failed(why) => refusal_number(why),
@@ -141,6 +143,7 @@ pub fn write(
                     used,
                     counters,
                     events,
+                    waiters,
                     offset,
                     value,
                 );

@@ -5,10 +5,11 @@ use Prim.Native.Nat.{ℕ, zero, suc, _+_, _-_, _*_, _/_, _^_, _≤_, _<_}
 use native.Mathlib.Nat.{zero-mul, suc-mul, suc-add, zero-add, add-comm, le-div-iff-mul-le, le-of-mul-le-mul-right, div-eq-of-eq-mul-left}
 use native.Mathlib.Omega.{arith}
 use lib.ListN.{length, getD, take, drop, take-append-drop, length-drop, List·getD-eq-default}
-use lib.Seq.{take-all, length-take-le, drop-drop, take-at, drop-at}
+use lib.Seq.{take-all, length-take-le, drop-drop, take-at, drop-at, ext-getD}
 use Rattle.tables.specs.Parts.{part, withPart}
 use Rattle.words.specs.Words.{wordOf, wordsOf, bytesOfAll, tableOf, Holds, Below}
-use Rattle.words.proofs.Table.{length-words, length-all, all-append, word-at, bytes-words, below-all, words-below}
+use Rattle.words.proofs.Word.{word-bytes}
+use Rattle.words.proofs.Table.{length-words, length-all, all-append, word-at, bytes-at, bytes-words, below-all, words-below}
 
 -- ---- the words of a part
 
@@ -80,6 +81,18 @@ module _ (k n : ℕ) (bs : List ℕ) (z : 0 < k) (e : length bs ≡ n * k) where
   pub table-held : ((i : ℕ) → getD bs i 0 < 256) → Holds k bs (tableOf k bs)
   unfolding tableOf
   table-held b = record { words-are = refl; bytes-are = rw number (sym (bytes-words k n bs e (below-all 256 bs b))) }
+
+-- the words of the bytes of words
+entry-same : (k : ℕ) (ws : List ℕ) → 0 < k → ((i : ℕ) → getD ws i 0 < 256 ^ k) → (i : ℕ) → i < length ws → getD (tableOf k (bytesOfAll k ws)) i 0 ≡ getD ws i 0
+unfolding tableOf
+entry-same k ws z h i l =
+    word-at k (length (bytesOfAll k ws) / k) i (bytesOfAll k ws) (rw (number k (length ws) (bytesOfAll k ws) z (length-all k ws)) l)
+    ∙ ap wordOf (bytes-at k i ws l) ∙ word-bytes k (getD ws i 0) (h i)
+
+pub table-bytes : (k : ℕ) (ws : List ℕ) → 0 < k → ((i : ℕ) → getD ws i 0 < 256 ^ k) → tableOf k (bytesOfAll k ws) ≡ ws
+table-bytes k ws z h =
+    let e = table-length k (length ws) (bytesOfAll k ws) z (length-all k ws) in
+    ext-getD 0 (tableOf k (bytesOfAll k ws)) ws e (λ i l. entry-same k ws z h i (rw e at l))
 
 -- a table of bytes by its length alone
 module _ (k : ℕ) (bs : List ℕ) where

@@ -16,12 +16,12 @@ returns c = failed-of (c .before .before .before .checked .ensures) (c .before .
 returns-2 : tie.Need-returns-2
 returns-2 c =
     let p = passed-of (c .before .before .before .before .before .before .before .before .before .checked .ensures) (c .before .before .before .before .before .before .before .held .given .1) in
-    read-refused p _ _ (c .before .before .before .before .reading .ensures _ _ _ _ _ _ (p .passes)) (c .before .before .why .given .0 .0) _ (c .before .before .why .given .1) (c .refusal-number .ensures)
+    read-refused p _ _ (c .before .before .before .before .reading .ensures _ _ _ _ _ _ _ (p .passes)) (c .before .before .why .given .0 .0) _ (c .before .before .why .given .1) (c .refusal-number .ensures)
 
 returns-3 : tie.Need-returns-3
 returns-3 c =
     let p = passed-of (c .before .before .before .before .before .before .before .before .checked .ensures) (c .before .before .before .before .before .before .held .given .1) in
-    read-value p _ _ (c .before .before .before .reading .ensures _ _ _ _ _ _ (p .passes)) _ (c .before .value .given .1)
+    read-value p _ _ (c .before .before .before .reading .ensures _ _ _ _ _ _ _ (p .passes)) _ (c .before .value .given .1)
 
 pub read-spec : {M : Type 1} → statement M
 read-spec =

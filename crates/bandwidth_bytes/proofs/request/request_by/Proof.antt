@@ -6,7 +6,7 @@ use Rattle.bandwidth_bytes.proofs.request.request_by.Tie as tie
 
 returns : tie.Need-returns
 returns c d k =
-    request-unnamed (passed-of (c .before .before .before .before .before .before .before .before .before .checked .ensures) (c .before .before .before .before .before .before .before .held .given .1)) _ _ _ _ _ (c .before .before .before .before .before .before .before .before .before .before .before .before .before .before .before .before .before .before .before .args .unknown) k (c .before .if1 .taken) (c .refusal-number .ensures)
+    request-unnamed (passed-of (c .before .before .before .before .before .before .before .before .before .checked .ensures) (c .before .before .before .before .before .before .before .held .given .1)) _ _ _ _ _ (c .before .before .before .before .before .before .before .before .before .before .before .before .before .before .before .before .before .before .before .before .args .unknown) k (c .before .if1 .taken) (c .refusal-number .ensures)
 
 serve-requires : tie.Need-serve-requires
 serve-requires c κs = (passed-of (c .before .before .before .before .before .before .before .before .before .before .before .checked .ensures) (c .before .before .before .before .before .before .before .before .before .held .given .1), c .before .before .before .if1 .left)
@@ -20,6 +20,4 @@ returns-3 c d k = c .before .before .before .before .before .before .serve .ensu
 pub request-by-spec : {M : Type 1} → statement M
 request-by-spec =
     tie.close
-    (tie.spec (λ c κs. search needs) (λ c. search needs) (λ c. search needs) (λ c κs. search needs) (λ c. search needs) (λ c. search needs)
-    (λ c. search needs) returns serve-requires (λ c. search needs) (λ c. search needs) (λ c. search needs) returns-2 (λ c. search needs)
-    (λ c. search needs) (λ c. search needs) returns-3)
+    (tie.spec (λ c κs. search needs) (λ c. search needs) (λ c. search needs) (λ c κs. search needs) (λ c. search needs) (λ c. search needs) (λ c. search needs) returns serve-requires (λ c. search needs) (λ c. search needs) (λ c. search needs) returns-2 (λ c. search needs) (λ c. search needs) (λ c. search needs) returns-3)

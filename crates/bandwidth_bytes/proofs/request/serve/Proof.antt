@@ -8,12 +8,12 @@ use Rattle.bandwidth_bytes.proofs.request.serve.Tie as tie
 
 give-bytes-requires : tie.Need-give-bytes-requires
 give-bytes-requires c κs =
-    let s = c .before .before .before .before .before .before .before .before .before .before .before .before .before in
+    let s = c .before .before .before .before .before .before .before .before .before .before .before .before .before .before in
     let w = c .before .before .row-at .ensures in
     (give-in (s .pre .0) (s .args .rcid) (s .args .mcid) (s .args .at) (s .args .kind) (s .args .bytes) (s .pre .1) (c .before .before .before .known-at .ensures) w, le-trans (w .short) (s .pre .0 .passes .ranges .na-high))
 
 count-bytes-requires : tie.Need-count-bytes-requires
-count-bytes-requires c κs = let s = c .before .before .before .before .before .before .before .before .before .before .before .before .before .before .before .before .before .before .before .before .before in (s .pre .0 .passes .ranges .w-high, omega (arith, c .before .before .before .before .before .before .before .give-bytes .ensures .given .small, s .fits .bytes))
+count-bytes-requires c κs = let s = c .before .before .before .before .before .before .before .before .before .before .before .before .before .before .before .before .before .before .before .before .before .before in (s .pre .0 .passes .ranges .w-high, omega (arith, c .before .before .before .before .before .before .before .give-bytes .ensures .given .small, s .fits .bytes))
 
 returns : tie.Need-returns
 returns c =
@@ -21,7 +21,7 @@ returns c =
     let r = n .before .before .before .before in
     let g = r .before .before .before .before in
     let w = g .before .before .before in
-    let s = w .before .before .before .before .before .before .before .before .before .before .before in
+    let s = w .before .before .before .before .before .before .before .before .before .before .before .before in
     served (s .pre .0) (s .args .rcid) (s .args .mcid) (s .args .at) (s .args .kind) (s .args .bytes) (s .pre .1) (w .before .known-at .ensures) (w .row-at .ensures) (g .give-bytes .ensures)
     (r .put64 .ensures) (n .count-bytes .ensures)
 
