@@ -5,11 +5,10 @@ use mathlib.Core.List.{List, [], _∷_}
 use Prim.Native.Nat.{ℕ, _-_, _≤_, _<_}
 use native.Mathlib.Omega.{arith}
 use lib.Dec.{T, leb, lit<}
-use lib.ListN.{length, getD, set, replicate}
+use lib.ListN.{getD, set}
 use Rattle.tables.specs.View.{Small}
 use Rattle.tables.specs.Parts.{RowAt}
 use Rattle.words.specs.Words.{bytesOfAll, withWord, tableOf, Holds}
-use Rattle.words.proofs.Table.{zero-bytes}
 use Rattle.words.proofs.Held.{put-held}
 use Rattle.access.specs.Access.{registersEnd, writeChecks}
 use Rattle.access.specs.Checks.{first}
@@ -50,7 +49,7 @@ use Rattle.bandwidth_lent.specs.declared.check.Check.{Check}
 use Rattle.bandwidth_lent.specs.declared.check.Check.the-variants.{Passed, Failed}
 use Rattle.bandwidth_lent.proofs.Steps.{answered, same-bytes}
 use Rattle.bandwidth_bytes.specs.View.{Asks, GiveFits, Gave, Stores}
-use Rattle.bandwidth_bytes.specs.Service.{Turned}
+use Rattle.bandwidth_service.specs.Service.{Turned}
 
 -- ---- what the checks found
 

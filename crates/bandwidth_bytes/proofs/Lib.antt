@@ -1,4 +1,3 @@
 pub mod Parts
 pub mod Calls
-pub mod Turns
 pub mod Windows

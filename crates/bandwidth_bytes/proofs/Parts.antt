@@ -2,9 +2,8 @@
 use mathlib.Core.Path.{_≡_, ap, _∙_}
 use mathlib.Core.List.{List}
 use Prim.Native.Nat.{ℕ, _-_}
-use lib.ListN.{length}
-use Rattle.tables.specs.Parts.{withPart, RowAt}
-use Rattle.words.specs.Words.{bytesOfAll, tableOf, Holds}
+use Rattle.tables.specs.Parts.{RowAt}
+use Rattle.words.specs.Words.{bytesOfAll, Holds}
 use Rattle.bandwidth_model.specs.Rules.{Setup}
 use Rattle.bandwidth_model.specs.Calls.{Grant}
 use Rattle.bandwidth_model.specs.Model.{Allocation, writeAlloc}
@@ -13,13 +12,7 @@ use Rattle.bandwidth_settings.specs.View.{Ready}
 use Rattle.bandwidth_settings.specs.declared.Written.{Written}
 use Rattle.bandwidth_settings.proofs.Rows.{row-write}
 use Rattle.bandwidth_grants.specs.Grants.{RowFits, RowGiven}
-use Rattle.bandwidth_waiters.specs.Served.{RowOpens, RowServed}
 use Rattle.bandwidth_bytes.specs.View.{Wrote, Stores}
-
--- stored back
-pub put-back : (from : ℕ) (bytes left : List ℕ) {n : ℕ} {new : List ℕ} → new ≡ bytesOfAll 4 (withPart from (length left) (tableOf 4 bytes) left) → length left ≡ n
-    → new ≡ bytesOfAll 4 (withPart from n (tableOf 4 bytes) left)
-put-back from bytes left e h = e ∙ ap (λ (m : ℕ). bytesOfAll 4 (withPart from m (tableOf 4 bytes) left)) h
 
 -- what is said of the words is said of the part
 module _ {su : Setup} {reserved pool at bytes : ℕ} {a u a′ u′ : List ℕ} (x : a ≡ a′) (y : u ≡ u′) where
@@ -41,12 +34,3 @@ alloc-stored {bw = bw} {v = v} p w ws h ready =
       bw-is = ap (λ (a : Allocation). a .bw) e;
       bytes-are = w .bytes-are (rw (← h .words-are) (h .bytes-are)) ∙ rw (← h .words-are) (ap (λ (a : Allocation). bytesOfAll 4 (a .configured)) e);
     }
-
--- ---- a waiter
-
-pub opens-loaded : {su : Setup} {size pool need : ℕ} {u u′ : List ℕ} → u ≡ u′ → RowOpens su u′ pool size need → RowOpens su u pool size need
-opens-loaded y w = rw y w
-
-pub served-loaded : {su : Setup} {size weights pool at need : ℕ} {a u a′ u′ : List ℕ} → a ≡ a′ → u ≡ u′ → {left : List ℕ} {g : Grant} {sum gave : ℕ}
-    → RowServed su size weights a u pool at need left g sum gave → RowServed su size weights a′ u′ pool at need left g sum gave
-served-loaded x y w = rw (← x, ← y) w

@@ -3,18 +3,17 @@ use mathlib.Core.Path.{_≡_, refl, sym, ap, _∙_}
 use mathlib.Core.List.{List, []}
 use Prim.Native.Nat.{ℕ, _-_, _*_, _<_}
 use native.Mathlib.Nat.{le-refl}
-use native.Mathlib.Omega.{arith}
 use lib.Dec.{lit<}
 use lib.ListN.{length, getD, replicate}
 use Rattle.tables.specs.View.{unionBelow}
 use Rattle.tables.proofs.Laws.{getD-zeros}
 use Rattle.tables.proofs.Union.{union-zero}
-use Rattle.words.specs.Words.{bytesOfAll, withWord, tableOf, Holds}
+use Rattle.words.specs.Words.{withWord, tableOf}
 use Rattle.words.proofs.Table.{zero-bytes}
 use Rattle.words.proofs.Parts.{table-bytes, table-held}
 use Rattle.replies.specs.Replies.{reply}
 use Rattle.bandwidth_setup.specs.View.{setupOf}
-use Rattle.bandwidth_model.specs.Rules.{Setup, pairs, poolOf}
+use Rattle.bandwidth_model.specs.Rules.{Setup, pairs}
 use Rattle.bandwidth_model.specs.Calls.{endWindow}
 use Rattle.bandwidth_model.specs.Waiters.{weightsBelow}
 use Rattle.bandwidth.proofs.Windows.{window-opens, window-size}
@@ -23,7 +22,7 @@ use Rattle.bandwidth_waiters.proofs.Windows.{went, went-still}
 use Rattle.bandwidth_lent.specs.Bytes.{Lent, lent, stepBytes}
 use Rattle.bandwidth_lent.specs.View.{stateIn, Passing}
 use Rattle.bandwidth_lent.specs.declared.check.Held.{Held}
-use Rattle.bandwidth_bytes.specs.Service.{tablesIn, Weighs, Turned, Begins}
+use Rattle.bandwidth_service.specs.Service.{tablesIn, Weighs, Turned, Begins}
 use Rattle.bandwidth_bytes.proofs.Calls.{window-ended}
 
 -- the words of cleared bytes

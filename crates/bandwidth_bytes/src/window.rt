@@ -1,9 +1,9 @@
 // Window ends on bytes.
-use crate::service::serve_all;
-use crate::service::weights_of;
 use bandwidth_lent::Check;
 use bandwidth_lent::Held;
 use bandwidth_lent::checked;
+use bandwidth_service::serve_all;
+use bandwidth_service::weights_of;
 use tables::saturating_sub;
 use words::clear8;
 use words::copy8;

@@ -1,5 +1,5 @@
 -- Words of a part of a table that were loaded into an array.
-use mathlib.Core.Path.{_≡_, sym, ap, _∙_}
+use mathlib.Core.Path.{_≡_, sym, _∙_}
 use mathlib.Core.List.{List}
 use Prim.Native.Nat.{ℕ, _+_, _-_, _*_, _≤_, _<_}
 use native.Mathlib.Omega.{arith}
@@ -12,10 +12,6 @@ use Rattle.bandwidth_wellformed.specs.Bits.{SpanAt}
 use Rattle.bandwidth_wellformed.specs.Tables.{Rows, Summed}
 use Rattle.bandwidth_wellformed.specs.declared.settings.Sums.{Sums}
 use Rattle.bandwidth_lent.specs.View.{PartIn}
-
--- as many words as the array holds
-pub loaded : (from : ℕ) (bytes : List ℕ) {n m : ℕ} {x : List ℕ} → x ≡ part from m (tableOf 4 bytes) → m ≡ n → x ≡ part from n (tableOf 4 bytes)
-loaded from bytes e h = e ∙ ap (λ (m : ℕ). part from m (tableOf 4 bytes)) h
 
 -- as many words as a part has
 pub part-words : (from n : ℕ) (bytes : List ℕ) → (from + n) * 4 ≤ length bytes → length (part from n (tableOf 4 bytes)) ≡ n

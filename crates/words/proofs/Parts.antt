@@ -68,6 +68,17 @@ put-part k from end bs words sub z h d e ws q =
     let m : from + length words ≤ length ws = le-of-mul-le-mul-right (rw (← l) at h) z in
     rw (e, n) (part-bytes k from (length words) bs ws words m q)
 
+-- ---- words in an array of the part's length
+
+-- loaded
+pub loaded-as : (from : ℕ) (bytes : List ℕ) {n m : ℕ} {x : List ℕ} → x ≡ part from m (tableOf 4 bytes) → m ≡ n → x ≡ part from n (tableOf 4 bytes)
+loaded-as from bytes e h = e ∙ ap (λ (m : ℕ). part from m (tableOf 4 bytes)) h
+
+-- stored back
+pub stored-as : (from : ℕ) (bytes left : List ℕ) {n : ℕ} {new : List ℕ} → new ≡ bytesOfAll 4 (withPart from (length left) (tableOf 4 bytes) left) → length left ≡ n
+    → new ≡ bytesOfAll 4 (withPart from n (tableOf 4 bytes) left)
+stored-as from bytes left e h = e ∙ ap (λ (m : ℕ). bytesOfAll 4 (withPart from m (tableOf 4 bytes) left)) h
+
 -- ---- all words of a table whose length is a number of words
 
 module _ (k n : ℕ) (bs : List ℕ) (z : 0 < k) (e : length bs ≡ n * k) where

@@ -22,7 +22,7 @@ ghost use Rattle.bandwidth_model.specs.Waiters.{heldWord, shareWeight, weightsB
 ghost use Rattle.bandwidth_grants.specs.Grants.{holderIn};
 ghost use Rattle.bandwidth_setup.specs.View.{setupOf};
 ghost use Rattle.bandwidth_waiters.specs.Turns.{weightIn, turn, turns};
-ghost use Rattle.bandwidth_bytes.specs.Service.{tablesIn, Weighs, ServeFits, Served, Turns, Turned, Begins};
+ghost use Rattle.bandwidth_service.specs.Service.{tablesIn, Weighs, ServeFits, Served, Turns, Turned, Begins};
 
 // The weight of a waiter by n words of its RCID from the word `from` on, with an array for them.
 fn weight_loaded(

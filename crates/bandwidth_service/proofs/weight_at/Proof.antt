@@ -1,4 +1,4 @@
--- `bandwidth_bytes::service::weight_at` meets its contract.
+-- `bandwidth_service::weight_at` meets its contract.
 use mathlib.Core.Path.{sym, ap, _∙_}
 use mathlib.Core.List.{List}
 use Prim.Native.Nat.{ℕ, _-_}
@@ -9,8 +9,8 @@ use lib.Seq.{length-take-le}
 use Rattle.bandwidth_model.specs.Rules.{pairs}
 use Rattle.bandwidth_model.specs.Waiters.{needOf, waiterAt}
 use Rattle.bandwidth_waiters.proofs.Weights.{weight-none, weight-row}
-use Rattle.bandwidth_bytes.proofs.service.weight_at.Statement.{statement}
-use Rattle.bandwidth_bytes.proofs.service.weight_at.Tie as tie
+use Rattle.bandwidth_service.proofs.weight_at.Statement.{statement}
+use Rattle.bandwidth_service.proofs.weight_at.Tie as tie
 
 returns : tie.Need-returns
 returns c = weight-none (c .before .before .before .before .pre .0 .opens) _ (sym (c .before .word64 .ensures) ∙ c .if1 .taken)

@@ -1,4 +1,4 @@
--- `bandwidth_bytes::service::serve_all` meets its contract.
+-- `bandwidth_service::serve_all` meets its contract.
 use mathlib.Core.Path.{_≡_, refl, _∙_}
 use Prim.Native.Nat.{_-_, _≤_, _<_}
 use native.Mathlib.Omega.{arith}
@@ -8,10 +8,10 @@ use Rattle.words.specs.Words.{tableOf}
 use Rattle.bandwidth_setup.specs.View.{setupOf}
 use Rattle.bandwidth_waiters.specs.Turns.{turns}
 use Rattle.bandwidth_waiters.proofs.Windows.{turns-none}
-use Rattle.bandwidth_bytes.specs.Service.{tablesIn, Words}
-use Rattle.bandwidth_bytes.proofs.Turns.{bytes-fit, words-in, turn-starts, turn-ends, all-turned}
-use Rattle.bandwidth_bytes.proofs.service.serve_all.Statement.{statement}
-use Rattle.bandwidth_bytes.proofs.service.serve_all.Tie as tie
+use Rattle.bandwidth_service.specs.Service.{tablesIn, Words}
+use Rattle.bandwidth_service.proofs.Turns.{bytes-fit, words-in, turn-starts, turn-ends, all-turned}
+use Rattle.bandwidth_service.proofs.serve_all.Statement.{statement}
+use Rattle.bandwidth_service.proofs.serve_all.Tie as tie
 
 abbrev Inv-loop : tie.InvT-loop
 Inv-loop setup active used₀ counters₀ events waiters₀ size weights pool₀ rcid₀ used counters waiters pool rcid =

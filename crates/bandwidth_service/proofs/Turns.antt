@@ -32,7 +32,7 @@ use Rattle.bandwidth_grants.specs.declared.Given.{Given}
 use Rattle.bandwidth_waiters.specs.Turns.{Tables, tables, servedTurn, turn, turns, Opens, Ready}
 use Rattle.bandwidth_waiters.proofs.Turns.{turn-none, turn-one}
 use Rattle.bandwidth_waiters.proofs.Windows.{turns-ready, turns-next}
-use Rattle.bandwidth_bytes.specs.Service.{tablesIn, Served, Words, Turns, Turned, Begins}
+use Rattle.bandwidth_service.specs.Service.{tablesIn, Served, Words, Turns, Turned, Begins}
 
 -- ---- every word fits its width
 

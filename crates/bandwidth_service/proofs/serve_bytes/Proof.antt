@@ -1,11 +1,11 @@
--- `bandwidth_bytes::service::serve_bytes` meets its contract.
+-- `bandwidth_service::serve_bytes` meets its contract.
 use mathlib.Core.Path.{sym}
 use Prim.Native.Nat.{ℕ}
 use lib.ListN.{replicate}
 use lib.Seq.{length-take-le}
 use borrow.Author.Needs.{needs}
-use Rattle.bandwidth_bytes.proofs.service.serve_bytes.Statement.{statement}
-use Rattle.bandwidth_bytes.proofs.service.serve_bytes.Tie as tie
+use Rattle.bandwidth_service.proofs.serve_bytes.Statement.{statement}
+use Rattle.bandwidth_service.proofs.serve_bytes.Tie as tie
 
 slice-aggregate-serve-loaded : tie.Need-slice-aggregate-serve-loaded
 slice-aggregate-serve-loaded c = sym (length-take-le _ (replicate 8 0) (c .before .before .before .before .pre .1))

@@ -1,4 +1,4 @@
--- `bandwidth_bytes::service::serve_at` meets its contract.
+-- `bandwidth_service::serve_at` meets its contract.
 use mathlib.Core.Path.{sym, ap, _∙_}
 use mathlib.Core.List.{List, []}
 use Prim.Native.Nat.{ℕ}
@@ -8,9 +8,9 @@ use lib.ListN.{getD}
 use Rattle.bandwidth_model.specs.Rules.{pairs}
 use Rattle.bandwidth_model.specs.Waiters.{needOf, waiterMcid, waiterAt, waiterKind, servedWord}
 use Rattle.bandwidth_waiters.proofs.Turns.{turn-opens}
-use Rattle.bandwidth_bytes.proofs.Turns.{turned-none, turned-one}
-use Rattle.bandwidth_bytes.proofs.service.serve_at.Statement.{statement}
-use Rattle.bandwidth_bytes.proofs.service.serve_at.Tie as tie
+use Rattle.bandwidth_service.proofs.Turns.{turned-none, turned-one}
+use Rattle.bandwidth_service.proofs.serve_at.Statement.{statement}
+use Rattle.bandwidth_service.proofs.serve_at.Tie as tie
 
 returns : tie.Need-returns
 returns c = turned-none (c .before .before .before .before .before .before .before .before .pre) (c .before .before .before .before .before .before .before .before .args .weights) (sym (c .before .word64 .ensures) ∙ c .if1 .taken)

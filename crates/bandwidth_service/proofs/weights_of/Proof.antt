@@ -1,4 +1,4 @@
--- `bandwidth_bytes::service::weights_of` meets its contract.
+-- `bandwidth_service::weights_of` meets its contract.
 use mathlib.Core.Path.{_≡_, sym, ap, _∙_}
 use Prim.Native.Nat.{ℕ, _-_, _*_, _/_, _≤_}
 use native.Mathlib.Omega.{arith}
@@ -8,8 +8,8 @@ use Rattle.words.specs.Words.{tableOf}
 use Rattle.bandwidth_setup.specs.View.{setupOf}
 use Rattle.bandwidth_model.specs.Waiters.{weightsBelow}
 use Rattle.bandwidth_waiters.proofs.Weights.{weights-start, weights-next}
-use Rattle.bandwidth_bytes.proofs.service.weights_of.Statement.{statement}
-use Rattle.bandwidth_bytes.proofs.service.weights_of.Tie as tie
+use Rattle.bandwidth_service.proofs.weights_of.Statement.{statement}
+use Rattle.bandwidth_service.proofs.weights_of.Tie as tie
 
 abbrev Inv-loop : tie.InvT-loop
 Inv-loop setup active waiters sum₀ rcid₀ end sum rcid =

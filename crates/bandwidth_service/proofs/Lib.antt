@@ -1,0 +1,3 @@
+-- The steps of the proofs here, and the laws that other crates cite.
+pub mod Parts
+pub mod Turns
