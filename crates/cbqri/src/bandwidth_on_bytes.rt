@@ -22,9 +22,10 @@ pub extern "C" fn cbqri_bandwidth_reset(
     used: &mut [u8],
     counters: &mut [u8],
     events: &mut [u8],
+    waiters: &mut [u8],
 ) -> u64
-    ensures { λ r. ⌜ reply r [] (after «record» active configured used counters events)
-        ≡ stepBytes (before «record» active configured used counters events) (reset (setupBy nbwblks mrbwb nr na nm q w)) ⌝ }
+    ensures { λ r. ⌜ reply r [] (after «record» active configured used counters events waiters)
+        ≡ stepBytes (before «record» active configured used counters events waiters) (reset (setupBy nbwblks mrbwb nr na nm q w)) ⌝ }
 {
     let setup = Setup {
         nbwblks,
@@ -35,7 +36,16 @@ pub extern "C" fn cbqri_bandwidth_reset(
         q,
         w,
     };
-    bandwidth_lent::reset::reset(record, active, configured, used, counters, events, setup)
+    bandwidth_lent::reset::reset(
+        record,
+        active,
+        configured,
+        used,
+        counters,
+        events,
+        waiters,
+        setup,
+    )
 }
 
 #[no_mangle]
@@ -46,12 +56,13 @@ pub extern "C" fn cbqri_bandwidth_read(
     used: &[u8],
     counters: &[u8],
     events: &[u8],
+    waiters: &[u8],
     size: u64,
     offset: u64,
     value: &mut u64,
 ) -> u64
-    ensures { λ r. ⌜ reply r (now (value .exit) ∷ []) (after «record» active configured used counters events)
-        ≡ stepBytes (before «record» active configured used counters events) (read size offset) ⌝ }
+    ensures { λ r. ⌜ reply r (now (value .exit) ∷ []) (after «record» active configured used counters events waiters)
+        ≡ stepBytes (before «record» active configured used counters events waiters) (read size offset) ⌝ }
 {
     let answer = bandwidth_bytes::read::read(
         record,
@@ -60,6 +71,7 @@ pub extern "C" fn cbqri_bandwidth_read(
         used,
         counters,
         events,
+        waiters,
         size,
         offset,
     );
@@ -75,12 +87,13 @@ pub extern "C" fn cbqri_bandwidth_write(
     used: &[u8],
     counters: &mut [u8],
     events: &mut [u8],
+    waiters: &[u8],
     size: u64,
     offset: u64,
     value: u64,
 ) -> u64
-    ensures { λ r. ⌜ reply r [] (after «record» active configured used counters events)
-        ≡ stepBytes (before «record» active configured used counters events) (write size offset value) ⌝ }
+    ensures { λ r. ⌜ reply r [] (after «record» active configured used counters events waiters)
+        ≡ stepBytes (before «record» active configured used counters events waiters) (write size offset value) ⌝ }
 {
     bandwidth_bytes::write::write(
         record,
@@ -89,6 +102,7 @@ pub extern "C" fn cbqri_bandwidth_write(
         used,
         counters,
         events,
+        waiters,
         size,
         offset,
         value,
@@ -103,6 +117,7 @@ pub extern "C" fn cbqri_bandwidth_request(
     used: &mut [u8],
     counters: &mut [u8],
     events: &[u8],
+    waiters: &[u8],
     rcid: u64,
     mcid: u64,
     at: u64,
@@ -111,8 +126,8 @@ pub extern "C" fn cbqri_bandwidth_request(
     reserved: &mut u64,
     pool: &mut u64,
 ) -> u64
-    ensures { λ r. ⌜ reply r (now (reserved .exit) ∷ now (pool .exit) ∷ []) (after «record» active configured used counters events)
-        ≡ stepBytes (before «record» active configured used counters events) (request rcid mcid at kind bytes) ⌝ }
+    ensures { λ r. ⌜ reply r (now (reserved .exit) ∷ now (pool .exit) ∷ []) (after «record» active configured used counters events waiters)
+        ≡ stepBytes (before «record» active configured used counters events waiters) (request rcid mcid at kind bytes) ⌝ }
 {
     let served = bandwidth_bytes::request::request(
         record,
@@ -121,6 +136,7 @@ pub extern "C" fn cbqri_bandwidth_request(
         used,
         counters,
         events,
+        waiters,
         rcid,
         mcid,
         at,
@@ -139,11 +155,12 @@ pub extern "C" fn cbqri_bandwidth_end_window(
     active: &mut [u8],
     configured: &[u8],
     used: &mut [u8],
-    counters: &[u8],
+    counters: &mut [u8],
     events: &[u8],
+    waiters: &mut [u8],
 ) -> u64
-    ensures { λ r. ⌜ reply r [] (after «record» active configured used counters events)
-        ≡ stepBytes (before «record» active configured used counters events) endWindow ⌝ }
+    ensures { λ r. ⌜ reply r [] (after «record» active configured used counters events waiters)
+        ≡ stepBytes (before «record» active configured used counters events waiters) endWindow ⌝ }
 {
-    bandwidth_bytes::window::end_window(record, active, configured, used, counters, events)
+    bandwidth_bytes::window::end_window(record, active, configured, used, counters, events, waiters)
 }

@@ -14,6 +14,7 @@ pub extern "C" fn cbqri_bandwidth_device_request(
     used: &mut [u8],
     counters: &mut [u8],
     events: &[u8],
+    waiters: &[u8],
     mode: u64,
     word: u64,
     at: u64,
@@ -22,8 +23,8 @@ pub extern "C" fn cbqri_bandwidth_device_request(
     reserved: &mut u64,
     pool: &mut u64,
 ) -> u64
-    ensures { λ r. ⌜ reply r (now (reserved .exit) ∷ now (pool .exit) ∷ []) (after «record» active configured used counters events)
-        ≡ stepBytes (before «record» active configured used counters events) (deviceRequest mode word at kind bytes) ⌝ }
+    ensures { λ r. ⌜ reply r (now (reserved .exit) ∷ now (pool .exit) ∷ []) (after «record» active configured used counters events waiters)
+        ≡ stepBytes (before «record» active configured used counters events waiters) (deviceRequest mode word at kind bytes) ⌝ }
 {
     let served = bandwidth_bytes::request::device_request(
         record,
@@ -32,6 +33,7 @@ pub extern "C" fn cbqri_bandwidth_device_request(
         used,
         counters,
         events,
+        waiters,
         mode,
         word,
         at,

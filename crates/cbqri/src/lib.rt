@@ -2,3 +2,4 @@
 mod bandwidth_on_bytes;
 mod capacity_on_bytes;
 mod device_on_bytes;
+mod waiters_on_bytes;
