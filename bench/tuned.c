@@ -237,6 +237,29 @@ static uint16_t events_bad(const struct monitor *m)
     return bad;
 }
 
+/* Not 0 if a word of waiters is one that no call stores: the need is its low half,
+ * and MCID, AT and write stand in 11:0 of its high half. */
+static uint32_t waiters_bad(const struct bandwidth *b)
+{
+    uint32_t top_mcid = (uint32_t)b->r.nm - 1, top_at = (uint32_t)(b->r.na - 1) << 8;
+    uint32_t bad = 0;
+    for (size_t i = 0; i < b->r.nr; i++) {
+        uint32_t need = load32(b->waiters, 2 * i), rest = load32(b->waiters, 2 * i + 1);
+        bad |= rest >> 12;
+        bad |= need == 0 ? rest : 0;
+        bad |= (int32_t)(rest & 0xff) > (int32_t)top_mcid;
+        bad |= (int32_t)(rest & 0x700) > (int32_t)top_at;
+    }
+    return bad;
+}
+
+/* Where no request waits, that is all there is to see. */
+static bool tuned_waiters_ok(struct bandwidth *b)
+{
+    b->waiting = any_word64(b->waiters, b->r.nr);
+    return b->waiting == 0 || waiters_bad(b) == 0;
+}
+
 static bool tuned_bandwidth_tables_ok(struct bandwidth *b)
 {
     const struct monitor *m = &b->monitor;
@@ -244,7 +267,7 @@ static bool tuned_bandwidth_tables_ok(struct bandwidth *b)
         return bandwidth_tables_ok(b);
     return settings_and_used_ok(b) &&
            (any_word64(m->counters, m->nm) & ~BANDWIDTH_FLAGS) >> b->r.w == 0 &&
-           events_bad(m) == 0;
+           events_bad(m) == 0 && tuned_waiters_ok(b);
 }
 
 static bool tuned_capacity_tables_ok(const struct capacity *c)
