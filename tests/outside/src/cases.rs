@@ -11,6 +11,7 @@ mod paper;
 mod published;
 mod refusals;
 mod sweep;
+mod waiters;
 mod weights;
 
 /// Who answers the calls of a case.
@@ -55,6 +56,7 @@ fn all(side: Side) -> Report {
     grants::run(&mut report);
     weights::run(&mut report);
     devices::run(&mut report);
+    waiters::run(&mut report);
     capacity::run(&mut report);
     forms::run(&mut report);
     refusals::run(&mut report);

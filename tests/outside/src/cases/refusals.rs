@@ -2,6 +2,7 @@
 
 use super::case::{bandwidth_setup, capacity_setup, BandwidthCase, CapacityCase};
 use super::Report;
+use crate::model::bandwidth::slices::WAITERS;
 use crate::model::{bandwidth, capacity};
 
 const SETUP: [u64; 7] = [100, 80, 4, 2, 4, 64, 24];
@@ -87,7 +88,10 @@ fn bandwidth_lengths(report: &mut Report) {
     // a reset's lengths go by the set-up that it is given
     c.refuses("one RCID more", &reset_of([100, 80, 5, 2, 4, 64, 24]), 2);
     c.refuses("one MCID less", &reset_of([100, 80, 4, 2, 3, 64, 24]), 2);
-    c.answers("the same product of NR and NA", &reset_of([100, 80, 2, 4, 4, 64, 24]), 0);
+    let same_product = reset_of([100, 80, 2, 4, 4, 64, 24]);
+    c.refuses("the same product of NR and NA, a word for each of 4 RCIDs", &same_product, 2);
+    c.lend_length(WAITERS, 16);
+    c.answers("a word for each of 2", &same_product, 0);
     c.word("RCID 0 AT 3 shares", 1, 3, 0x8000_0000);
 }
 
