@@ -115,7 +115,10 @@ fn waiter(random: &mut Random, state: &State) -> Change {
         3 => WRITE.mask(),
         4 => good & !MCID.mask() | MCID.place(setup.nm & 0xFF),
         5 => good & !AT.mask() | AT.place(setup.na & 7),
-        6 => good | 1 << random.between(44, 63),
+        6 => {
+            let any = random.between(44, 63);
+            good | 1 << random.pick(&[44, 63, any])
+        }
         7 => state.waiters[place] ^ 1 << random.below(64),
         _ => random.next(),
     };

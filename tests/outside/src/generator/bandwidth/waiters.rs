@@ -20,7 +20,7 @@ pub fn any_wait(random: &mut Random, setup: &Setup) -> Call {
 /// The waiters of a state made directly: none, some or all.
 pub fn any_waiters(random: &mut Random, setup: &Setup, configured: &[u32]) -> Vec<u64> {
     let chance = random.pick(&[0, 10, 50, 100]);
-    let mut word = |rcid: u64| {
+    let word = |rcid: u64| {
         let at = random.below(setup.na);
         let (mcid, kind) = (random.below(setup.nm), random.below(2));
         let bytes = likely_need(random, setup, configured, rcid, at);
@@ -31,7 +31,7 @@ pub fn any_waiters(random: &mut Random, setup: &Setup, configured: &[u32]) -> Ve
             0
         }
     };
-    (0..setup.nr).map(|rcid| word(rcid)).collect()
+    (0..setup.nr).map(word).collect()
 }
 
 pub fn waiters(random: &mut Random, state: &State) -> Steps {
