@@ -1,4 +1,4 @@
-//! Ledgers (rules L1 to L6) that follow a list of calls by arguments and answers alone,
+//! Ledgers (rules L1 to L6 and L8) that follow a list of calls by arguments and answers alone,
 //! and the claims that each list must meet. They never look into a record or table to learn anything;
 //! tables are only compared with what the ledger worked out.
 
