@@ -2,7 +2,8 @@
 //! reservations and pool.
 
 use super::case::bandwidth_record::*;
-use super::case::{wait, BandwidthCase};
+use super::case::{bandwidth_setup, wait, BandwidthCase};
+use super::refusals::{lengths_first, one_to_three_first};
 use super::Report;
 use crate::model::bandwidth::slices::*;
 use crate::model::bandwidth::Call;
@@ -120,28 +121,13 @@ fn refusals(report: &mut Report) {
 fn order(report: &mut Report) {
     let mut c = BandwidthCase::after_reset(report, SETUP);
     for call in [wait([4, 0, 0, 0, 0]), wait([0, 0, 0, 0, 1]), Call::Need { rcid: 4 }] {
+        one_to_three_first(&mut c, &call);
         c.aside(|c| {
             c.store(WAITERS, 3, 0x0800_0000_0000);
-            c.refuses("3 before 7", &call, 3);
-            c.lend_length(WAITERS, 33);
-            c.refuses("2 before 3", &call, 2);
-            c.store(RECORD, W, 63);
-            c.refuses("1 before 2", &call, 1);
-            c.store(RECORD, W, 24);
-            c.lend_length(RECORD, 95);
-            c.refuses("1 for the record's length", &call, 1);
+            c.refuses("3 before 7, 10 and 11", &call, 3);
         });
     }
-    for (region, right) in c.lengths().into_iter().enumerate() {
-        let number = if region == RECORD { 1 } else { 2 };
-        for length in [0, right - 1, right + 1, right + 8] {
-            c.aside(|c| {
-                c.lend_length(region, length);
-                c.refuses("a length", &wait([0, 0, 0, 0, 1]), number);
-                c.refuses("a length", &Call::Need { rcid: 0 }, number);
-            });
-        }
-    }
+    lengths_first(&mut c, &[wait([0, 0, 0, 0, 1]), Call::Need { rcid: 0 }]);
 }
 
 /// Four wait: RCID 0 is 580 short of its bytes after its reservation, RCID 1 2,080, RCID 2 220; the
@@ -360,10 +346,9 @@ fn dropped(report: &mut Report) {
         c.store(ACTIVE, 7, 0);
         needs(c, "as before", [5_000, 0, 0, 5_000]);
     });
-    let setup = super::case::bandwidth_setup([100, 0, 4, 2, 4, 64, 24]);
-    c.refuses("a reset", &Call::Reset(setup), 1);
+    c.refuses("a reset", &Call::Reset(bandwidth_setup([100, 0, 4, 2, 4, 64, 24])), 1);
     needs(&mut c, "as before", [5_000, 0, 0, 5_000]);
-    c.answers("a reset", &Call::Reset(super::case::bandwidth_setup(SETUP)), 0);
+    c.answers("a reset", &Call::Reset(bandwidth_setup(SETUP)), 0);
     needs(&mut c, "dropped", [0; 4]);
     c.end_window();
     c.word("nothing is used", USED, 0, 0);

@@ -75,27 +75,16 @@ pub struct State {
     pub waiters: Vec<u64>,
 }
 
-/// One call with its arguments.
+/// One call with its arguments. Wait puts a request to wait, Need is what an RCID's still waits for.
 #[derive(Clone, Debug, PartialEq, Eq)]
 pub enum Call {
     Reset(Setup),
-    Read {
-        size: u64,
-        offset: u64,
-    },
-    Write {
-        size: u64,
-        offset: u64,
-        value: u64,
-    },
+    Read { size: u64, offset: u64 },
+    Write { size: u64, offset: u64, value: u64 },
     Request(Request),
     DeviceRequest(DeviceRequest),
-    /// Puts a request to wait.
     Wait(Request),
-    /// What the request of an RCID waits for.
-    Need {
-        rcid: u64,
-    },
+    Need { rcid: u64 },
     EndWindow,
 }
 
