@@ -10,6 +10,7 @@ mod grants;
 mod paper;
 mod published;
 mod refusals;
+mod served;
 mod sweep;
 mod waiters;
 mod weights;
@@ -57,6 +58,7 @@ fn all(side: Side) -> Report {
     weights::run(&mut report);
     devices::run(&mut report);
     waiters::run(&mut report);
+    served::run(&mut report);
     capacity::run(&mut report);
     forms::run(&mut report);
     refusals::run(&mut report);

@@ -2,6 +2,7 @@
 
 mod devices;
 mod grants;
+mod served;
 mod waiters;
 mod weights;
 
@@ -52,7 +53,7 @@ pub fn accepted(before: &State, call: &Call, answer: Answer, after: &State) -> L
         Call::Reset(_) => labels.extend(waiters::reset(before)),
         Call::EndWindow => {
             labels.extend(weights::window_end(before));
-            labels.extend(waiters::window_end(before, after));
+            labels.extend(served::window_end(before, after));
             if before.active != after.active {
                 labels.push("window end put other settings in force".into());
             }
@@ -162,6 +163,7 @@ pub fn required() -> Labels {
     labels.extend(devices::required());
     labels.extend(weights::required());
     labels.extend(waiters::required());
+    labels.extend(served::required());
     labels.extend(ledger_required());
     labels
 }

@@ -1,5 +1,6 @@
 //! The ledger of the bandwidth controller and the claims of demand 3.
 
+mod deadline;
 mod read_back;
 mod waiters;
 mod window;
@@ -33,7 +34,7 @@ pub struct Ledger {
 
 /// What the lists of a run must have shown.
 pub fn required() -> Labels {
-    [read_back::required(), waiters::required()].concat()
+    [read_back::required(), deadline::required()].concat()
 }
 
 /// One counter: its setting, and the bytes that it counted since its event was set.
