@@ -5,7 +5,7 @@
  * get the functions under the library's own names.
  *
  * tuned.c includes this file and has the tables checked by functions of its
- * own, named by the two macros below.
+ * own, named by the three macros below.
  */
 #include "plain.h"
 
@@ -14,6 +14,7 @@
 
 #ifndef BANDWIDTH_TABLES_OK
 #define BANDWIDTH_TABLES_OK bandwidth_tables_ok
+#define WAITERS_OK waiters_ok
 #define CAPACITY_TABLES_OK capacity_tables_ok
 #endif
 
@@ -214,9 +215,11 @@ static bool pool_ok(const struct bandwidth *b)
     return b->r.pool_given <= (b->r.nbwblks - b->active_sum) * b->r.q;
 }
 
-/* Reads both settings tables, the used words, the counters and their settings
- * and the waiters, and sets the two sums and whether a request waits. */
+/* Reads both settings tables, the used words, the counters and their settings,
+ * and sets the two sums. */
 static bool BANDWIDTH_TABLES_OK(struct bandwidth *b);
+/* Reads the waiters, and sets whether a request waits. */
+static bool WAITERS_OK(struct bandwidth *b);
 /* Reads the masks, the counters and their settings. */
 static bool CAPACITY_TABLES_OK(const struct capacity *c);
 
@@ -294,22 +297,22 @@ static bool events_ok(const struct monitor *m)
     return true;
 }
 
-static bool waiter_ok(const struct bandwidth *b, uint64_t word)
+static bool waiter_ok(uint64_t word, uint64_t nm, uint64_t na)
 {
-    return word == 0 ||
-           (field(word, 0, 32) != 0 && field(word, WAITER_MCID_LOW, 8) < b->r.nm &&
-            field(word, WAITER_AT_LOW, 3) < b->r.na && word >> WAITER_END == 0);
+    return field(word, 0, 32) != 0 && field(word, WAITER_MCID_LOW, 8) < nm &&
+           field(word, WAITER_AT_LOW, 3) < na && word >> WAITER_END == 0;
 }
 
 static bool waiters_ok(struct bandwidth *b)
 {
-    b->waiting = 0;
+    uint64_t all = 0;
     for (uint64_t i = 0; i < b->r.nr; i++) {
         uint64_t word = load64(b->waiters, i);
-        if (!waiter_ok(b, word))
+        if (word != 0 && !waiter_ok(word, b->r.nm, b->r.na))
             return false;
-        b->waiting |= word;
+        all |= word;
     }
+    b->waiting = all;
     return true;
 }
 
@@ -328,8 +331,7 @@ static bool bandwidth_tables_ok(struct bandwidth *b)
            settings_ok(b->configured, &b->r, &b->configured_sum) &&
            used_ok(b) &&
            counters_ok(&b->monitor, BANDWIDTH_FLAGS, b->r.w) &&
-           events_ok(&b->monitor) &&
-           waiters_ok(b);
+           events_ok(&b->monitor);
 }
 
 static bool capacity_tables_ok(const struct capacity *c)
@@ -393,7 +395,7 @@ static uint64_t bandwidth_open(struct bandwidth *b, BANDWIDTH_SLICES())
     if (refusal)
         return refusal;
     if (!registers_ok(&b->r.registers, b->r.na, SETTING) || !BANDWIDTH_TABLES_OK(b) ||
-        !pool_ok(b))
+        !pool_ok(b) || !WAITERS_OK(b))
         return REFUSED_STATE;
     return 0;
 }

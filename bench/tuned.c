@@ -17,12 +17,13 @@
 #define PREFIX tuned_
 #endif
 #define BANDWIDTH_TABLES_OK tuned_bandwidth_tables_ok
+#define WAITERS_OK tuned_waiters_ok
 #define CAPACITY_TABLES_OK tuned_capacity_tables_ok
 #include "plain.c"
 
 enum {
     PART = 128, /* words of a part, at most */
-    SMALL = 6   /* tables up to this many pairs are read the plain way */
+    SMALL = 6   /* tables up to this many words are read the plain way */
 };
 
 /* mark_bits[NA - 2][i]: bit 16 + AT, where AT is i modulo NA, and bits 31:24. */
@@ -256,6 +257,8 @@ static uint32_t waiters_bad(const struct bandwidth *b)
 /* Where no request waits, that is all there is to see. */
 static bool tuned_waiters_ok(struct bandwidth *b)
 {
+    if (b->r.nr <= SMALL)
+        return waiters_ok(b);
     b->waiting = any_word64(b->waiters, b->r.nr);
     return b->waiting == 0 || waiters_bad(b) == 0;
 }
@@ -267,7 +270,7 @@ static bool tuned_bandwidth_tables_ok(struct bandwidth *b)
         return bandwidth_tables_ok(b);
     return settings_and_used_ok(b) &&
            (any_word64(m->counters, m->nm) & ~BANDWIDTH_FLAGS) >> b->r.w == 0 &&
-           events_bad(m) == 0 && tuned_waiters_ok(b);
+           events_bad(m) == 0;
 }
 
 static bool tuned_capacity_tables_ok(const struct capacity *c)
