@@ -80,7 +80,8 @@ ENTRY(capacity_evict, CAPACITY_OF(&cc), 0, 0, 0, 3)
 static const struct { const char *name; uint64_t (*call)(void); } entries[] = {
     NAMED(bandwidth_reset), NAMED(bandwidth_read), NAMED(bandwidth_write),
     NAMED(bandwidth_request), NAMED(bandwidth_device_request), NAMED(bandwidth_wait),
-    NAMED(bandwidth_need), NAMED(bandwidth_end_window), NAMED(capacity_reset), NAMED(capacity_read), NAMED(capacity_write), NAMED(capacity_fill),
+    NAMED(bandwidth_need), NAMED(bandwidth_end_window),
+    NAMED(capacity_reset), NAMED(capacity_read), NAMED(capacity_write), NAMED(capacity_fill),
     NAMED(capacity_evict),
 };
 
@@ -93,8 +94,8 @@ static uint64_t measure(uint64_t (*call)(void))
     return used_stack();
 }
 
-/* The largest over every register; bw_alloc or block_mask first, so that CONFIG_LIMIT has an operand.
- * Under RCID 0 a request waits, but where one is put to wait. */
+/* The largest over every register; bw_alloc or block_mask first, so that CONFIG_LIMIT has an
+ * operand. Under RCID 0 a request waits, but where one is put to wait. */
 static uint64_t largest(uint64_t (*call)(void), int size)
 {
     uint64_t largest = 0;

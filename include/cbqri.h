@@ -218,7 +218,7 @@ enum {
     CBQRI_REFUSED_LENGTH = 2,         /* a table of another length than the set-up says */
     CBQRI_REFUSED_STATE = 3,          /* record or table not well formed; not checked by a reset */
     CBQRI_REFUSED_SIZE = 4,           /* access neither of 4 nor of 8 bytes */
-    CBQRI_REFUSED_OFFSET = 5,         /* offset no multiple of the size, or the end beyond byte 40 */
+    CBQRI_REFUSED_OFFSET = 5,         /* offset no multiple of the size, or end beyond byte 40 */
     CBQRI_REFUSED_VALUE = 6,          /* 4-byte write of a value of 2^32 or more */
     CBQRI_REFUSED_IDENTIFIER = 7,     /* RCID at or above NR, or MCID at or above NM */
     CBQRI_REFUSED_BLOCK = 8,          /* block at or above NCBLKS */
