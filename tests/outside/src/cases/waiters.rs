@@ -16,6 +16,7 @@ pub fn run(report: &mut Report) {
     refusals(report);
     order(report);
     worked(report);
+    three_holders(report);
     beside_requests(report);
     dropped(report);
 }
@@ -157,6 +158,29 @@ fn worked(report: &mut Report) {
     needs(&mut c, "after it", [0, 0, 0, 1]);
     let rest = [(USED, 0, 0), (USED, 2, 0), (USED, 4, 0)];
     c.changes("the third", &Call::EndWindow, &rest);
+}
+
+/// The list of calls that is proved too (`waiting` in bandwidth_model's Cases): RCID 0 has 1,920 bytes
+/// and weight 0, RCID 1 1,920 and weight 5, RCID 2 1,280 and weight 2.
+fn three_holders(report: &mut Report) {
+    let mut c = BandwidthCase::after_reset(report, SETUP);
+    c.configure("RCID 0", (0, 0), 30, 1);
+    c.configure("RCID 1", (1, 0), 0x0050_001E, 1);
+    c.configure("RCID 2", (2, 0), 0x0020_0014, 1);
+    c.configure("RCID 1 AT 1", (1, 1), 0x8000_0000, 1);
+    c.mon("MCID 1 counts writes", 0x30_0101, 1);
+    c.wait("RCID 0", [0, 0, 0, 0, 3_000]);
+    c.wait("RCID 1, by its sharer", [1, 1, 1, 1, 2_500]);
+    c.wait("RCID 2, AT 5 of 2", [2, 2, 5, 0, 5_000]);
+    c.request("by the settings of the reset", [0, 0, 0, 0, 100], (100, 0));
+    c.end_window();
+    needs(&mut c, "580 and 2/7 of 1,280 of the pool", [1_080, 0, 3_355, 0]);
+    c.request("weight 0, all is used", [0, 0, 0, 0, 1], (0, 0));
+    c.request("the rest of the pool", [2, 0, 0, 0, 1_000], (0, 335));
+    c.word("1,920 and 580 written", COUNTERS, 1, 2_500);
+    c.wait("RCID 1 again", [1, 1, 0, 0, 100]);
+    c.end_window();
+    needs(&mut c, "RCID 2 has the pool alone", [0, 0, 795, 0]);
 }
 
 /// A waiter has its bytes before any request of the window; requests have what is left, and leave
