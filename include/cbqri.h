@@ -428,12 +428,13 @@ uint64_t cbqri_bandwidth_device_request(uint8_t *record, size_t record_len,
                                         uint64_t kind, uint32_t bytes, uint64_t *reserved,
                                         uint64_t *pool);
 
-/* Puts a request to wait: the same arguments as cbqri_bandwidth_request, and
- * nothing is granted by the call itself. One request can wait under each RCID,
- * and is served at every window end (below) until it has all its bytes, or a
- * reset comes. So a driver that was granted less than it asked for puts the rest
- * to wait and asks for the need, instead of trying again. Other requests, of the
- * same RCID too, go on beside it. Refusals: 1 to 3, 7, 10, 11.
+/* Puts a request to wait: the same arguments as cbqri_bandwidth_request (an AT at
+ * or above NA is stored as 0), and nothing is granted by the call itself. One
+ * request can wait under each RCID, and is served at every window end (below)
+ * until it has all its bytes, or a reset comes. So a driver that was granted less
+ * than it asked for puts the rest to wait and asks for the need, instead of trying
+ * again. Other requests, of the same RCID too, go on beside it. Refusals: 1 to 3,
+ * 7, 10, 11.
  *
  * How long it takes: a request for n bytes is done within n / (R * Q) window
  * ends, rounded up, as long as its holder has at least R blocks in force at each,
