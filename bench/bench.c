@@ -6,8 +6,7 @@
  * plain.c and tuned.c are compiled by gcc and, with -DWITH_CLANG, by clang
  * too, both with -O3 for baseline x86-64; the better one counts and is named.
  * With -DWITH_BEFORE another build of the library takes part, whose functions
- * begin with before_cbqri_: that of an earlier commit with the same interface,
- * perhaps without the device's request.
+ * begin with before_cbqri_: that of an earlier commit with the same interface.
  * Each number is the least of several repetitions, in which the versions take
  * turns; a ratio is that of the two numbers printed beside it. All versions
  * must give the same answers and leave the same bytes.
@@ -18,7 +17,6 @@
 #include "fastest.h"
 #include "inputs.h"
 
-#include <math.h>
 #include <time.h>
 
 #define PREFIX plain_gcc_
@@ -40,7 +38,6 @@
 #define PREFIX before_cbqri_
 #include "plain.h"
 #undef PREFIX
-#pragma weak before_cbqri_bandwidth_device_request
 #endif
 
 enum group { LIBRARY, PLAIN, TUNED, BEFORE, GROUPS };
@@ -68,6 +65,7 @@ enum { VERSIONS = sizeof versions / sizeof versions[0] };
 #endif
 
 static struct state first_end;
+static const struct setup *size; /* of the tables */
 
 /* The measured calls: n of each, with everything they answer added up, refusals
  * from bit 40, and pool bytes twice, so that one amount told as the other shows. */
@@ -118,11 +116,50 @@ static uint64_t run_read(const struct interface *f, uint64_t n)
     return sum;
 }
 
+/* None waits before a call: its caller takes the request out again. */
+static uint64_t run_wait(const struct interface *f, uint64_t n)
+{
+    uint64_t sum = 0;
+    for (uint64_t i = 0; i < n; i++) {
+        const struct arguments *a = &list[i % CALLS];
+        sum += f->bandwidth_wait(BANDWIDTH_OF(&now.bandwidth), a->rcid, a->mcid, a->at, a->which,
+                                 a->bytes) << 40;
+        sum += now.bandwidth.waiters[a->rcid] >> 32;
+        now.bandwidth.waiters[a->rcid] = 0;
+    }
+    return sum;
+}
+
+static uint64_t run_need(const struct interface *f, uint64_t n)
+{
+    uint64_t sum = 0, need;
+    all_wait(&now.bandwidth, size);
+    for (uint64_t i = 0; i < n; i++) {
+        sum += f->bandwidth_need(BANDWIDTH_OF(&now.bandwidth), list[i % CALLS].rcid, &need) << 40;
+        sum += need & 0xff;
+    }
+    return sum;
+}
+
 static uint64_t run_end_window(const struct interface *f, uint64_t n)
 {
     uint64_t sum = 0;
     for (uint64_t i = 0; i < n; i++)
         sum += f->bandwidth_end_window(BANDWIDTH_OF(&now.bandwidth));
+    return sum << 40;
+}
+
+/* Before each call all wait again. */
+static uint64_t run_end_window_waiting(const struct interface *f, uint64_t n)
+{
+    static uint64_t waiters[MAX_RCIDS];
+    uint64_t sum = 0;
+    all_wait(&now.bandwidth, size);
+    memcpy(waiters, now.bandwidth.waiters, now.bandwidth.waiters_len);
+    for (uint64_t i = 0; i < n; i++) {
+        memcpy(now.bandwidth.waiters, waiters, now.bandwidth.waiters_len);
+        sum += f->bandwidth_end_window(BANDWIDTH_OF(&now.bandwidth));
+    }
     return sum << 40;
 }
 
@@ -158,16 +195,14 @@ static const struct measured {
     {"device's request", run_device_request, 1},
     {"CONFIG_LIMIT write", run_config_limit, 1},
     {"read bw_alloc", run_read, 1},
+    {"wait", run_wait, 1},
+    {"need, all wait", run_need, 1},
     {"window end", run_end_window, 1},
+    {"window end, all wait", run_end_window_waiting, 1},
     {"fill", run_fill, 0},
     {"evict", run_evict, 0},
 };
 enum { MEASURED = sizeof measured / sizeof measured[0] };
-
-static int has_call(const struct interface *f, const struct measured *m)
-{
-    return m->run != run_device_request || f->bandwidth_device_request;
-}
 
 /* For scale */
 
@@ -196,7 +231,8 @@ static uint64_t read_all(int bandwidth)
     if (bandwidth)
         return sum_words(b->record, b->record_len) + sum_words(b->active, b->active_len) +
                sum_words(b->configured, b->configured_len) + sum_words(b->used, b->used_len) +
-               sum_words(b->counters, b->counters_len) + sum_words(b->events, b->events_len);
+               sum_words(b->counters, b->counters_len) + sum_words(b->events, b->events_len) +
+               sum_words(b->waiters, b->waiters_len);
     return sum_words(c->record, c->record_len) + sum_words(c->masks, c->masks_len) +
            sum_words(c->counters, c->counters_len) + sum_words(c->events, c->events_len);
 }
@@ -269,9 +305,6 @@ static void take_times(const struct measured *m, int repetitions, double millise
     for (int r = 0; r < repetitions; r++) {
         for (int turn = 0; turn < VERSIONS; turn++) {
             int v = (r + turn) % VERSIONS;
-            times[v][r] = NAN;
-            if (!has_call(&versions[v].f, m))
-                continue;
             times[v][r] = time_calls(m, &versions[v].f, n, &sum);
             check_same(sum, &first_sum, r == 0 && turn == 0, m->name);
         }
@@ -307,13 +340,15 @@ static void print_head(int repetitions, double milliseconds)
            "  ratios         the library's time to that of the C: below 1 it is the faster one\n"
            "  state          mixed: most pairs set, each RCID with a weight; reset: after a reset\n"
            "  window end     each one finds what the one before left: after the first both tables\n"
-           "                 of settings are equal, so that the next take less time\n\n",
+           "                 of settings are equal, so that the next take less time\n"
+           "  all wait       under every RCID a request waits, before each window end anew; in the\n"
+           "                 other rows none does\n\n",
            repetitions, milliseconds, COMPILERS);
-    printf("%-19s %-7s %4s %-6s %8s %8s %-5s %8s %-5s %8s %13s %13s\n", "call", "pairs", "NM",
+    printf("%-20s %-7s %4s %-6s %8s %8s %-5s %8s %-5s %8s %13s %13s\n", "call", "pairs", "NM",
            "state", "library", "plain", "", "tuned", "", "read all", "library/plain",
            "library/tuned");
 #ifdef WITH_BEFORE
-    printf("at the end of a row: before, library/before; nan if before has no such call\n");
+    printf("at the end of a row: before, library/before\n");
 #endif
 }
 
@@ -324,7 +359,7 @@ static void print_row(const struct measured *m, const struct setup *s, const cha
     const double *ns = row->ns;
     char pairs[16];
     snprintf(pairs, sizeof pairs, "%" PRIu64 " x %" PRIu64, s->nr, s->na);
-    printf("%-19s %-7s %4" PRIu64 " %-6s %8.1f %8.1f %-5s %8.1f %-5s %8.1f %13.2f %13.2f",
+    printf("%-20s %-7s %4" PRIu64 " %-6s %8.1f %8.1f %-5s %8.1f %-5s %8.1f %13.2f %13.2f",
            m->name, pairs, s->nm, state, ns[LIBRARY], ns[plain], versions[plain].f.name,
            ns[tuned], versions[tuned].f.name, row->reading, ns[LIBRARY] / ns[plain],
            ns[LIBRARY] / ns[tuned]);
@@ -338,6 +373,7 @@ static void print_row(const struct measured *m, const struct setup *s, const cha
 static double bench_state(const struct setup *s, int mixed, int repetitions, double milliseconds)
 {
     double worst = 0;
+    size = s;
     make_inputs(s, mixed);
     for (int i = 0; i < MEASURED; i++) {
         struct row row = measure(&measured[i], repetitions, milliseconds);

@@ -9,8 +9,11 @@
 
 #include <string.h>
 
-/* The slices of a controller by number; the last two are the same in both. */
-enum { RECORD, ACTIVE, CONFIGURED, USED, BANDWIDTH_COUNTERS, BANDWIDTH_EVENTS, BANDWIDTH_SLICES_END };
+/* The slices of a controller by number. */
+enum {
+    RECORD, ACTIVE, CONFIGURED, USED, BANDWIDTH_COUNTERS, BANDWIDTH_EVENTS, WAITERS,
+    BANDWIDTH_SLICES_END
+};
 enum { MASKS = 1, CAPACITY_COUNTERS, CAPACITY_EVENTS, CAPACITY_SLICES_END };
 enum { MAX_SLICES = BANDWIDTH_SLICES_END };
 
@@ -106,6 +109,23 @@ static void random_row(void *table, const struct setup *s, uint64_t rcid, uint64
             put_word(table, row + at, 4, (UINT64_C(8) | holders[upto(count)]) << 28);
 }
 
+/* A request that waits; its need is at times near the blocks that its holder may have. */
+static uint64_t random_waiter(const struct setup *s)
+{
+    uint64_t blocks = s->q * (1 + upto(8));
+    uint64_t need = PICK(1, blocks, blocks + 1, blocks - 1, UINT32_MAX, 1 + upto(UINT32_MAX));
+    uint64_t mcid = upto(s->nm), at = upto(s->na), write = upto(2);
+    return (need ? need : 1) | mcid << 32 | at << 40 | write << 43;
+}
+
+/* Under none, few, half or all of the RCIDs a request waits. */
+static void random_waiters(void *table, const struct setup *s)
+{
+    uint64_t one = PICK(0, 8, 2, 1);
+    for (uint64_t rcid = 0; rcid < s->nr; rcid++)
+        put_word(table, rcid, 8, one && one_in(one) ? random_waiter(s) : 0);
+}
+
 /* Of all blocks, or of half of them, some are held; hands back how many. */
 static uint64_t random_settings(void *table, const struct setup *s)
 {
@@ -146,6 +166,7 @@ static void random_bandwidth(const struct slice *list, const struct setup *s)
         put_word(list[USED].at, i, 4, PICK(0, limit, limit ? upto(limit) : 0));
     }
     random_monitor(list[BANDWIDTH_COUNTERS].at, list[BANDWIDTH_EVENTS].at, s, 3, UINT64_C(3) << 62);
+    random_waiters(list[WAITERS].at, s);
     put_word(list[RECORD].at, 10, 8, random_bw_alloc(s) & 0xfff0ffff);
     put_word(list[RECORD].at, 11, 8, PICK(0, pool, pool ? upto(pool) : 0));
 }
@@ -196,7 +217,7 @@ static void damage_length(size_t *length)
 /* Random calls */
 
 enum kind {
-    RESET, READ, WRITE, REQUEST, END_WINDOW, DEVICE_REQUEST,
+    RESET, READ, WRITE, REQUEST, END_WINDOW, DEVICE_REQUEST, WAIT, NEED,
     FILL = REQUEST, EVICT = END_WINDOW
 };
 
@@ -257,7 +278,8 @@ static struct call random_call(const struct setup *s, int bandwidth)
 {
     struct call c = {0};
     c.kind = (enum kind)PICK(READ, WRITE, WRITE, WRITE, REQUEST, REQUEST, END_WINDOW,
-                             bandwidth ? DEVICE_REQUEST : FILL);
+                             bandwidth ? DEVICE_REQUEST : FILL, bandwidth ? WAIT : FILL,
+                             bandwidth ? NEED : EVICT);
     if (one_in(50))
         c.kind = RESET;
     c.setup = *s;
@@ -273,22 +295,24 @@ static struct call random_call(const struct setup *s, int bandwidth)
     c.at = one_in(10) ? PICK(s->na, 8, UINT64_MAX) : upto(s->na);
     c.which = bandwidth ? PICK(0, 0, 1, 2, UINT64_MAX)
                         : (one_in(10) ? PICK(s->ncblks, 64, UINT64_MAX) : upto(s->ncblks));
-    c.bytes = (uint32_t)random_word(32);
+    c.bytes = one_in(8) ? 0 : (uint32_t)random_word(32);
     random_device(&c, s);
     return c;
 }
 
 /* A call on slices */
 
-/* The numbers that a call hands back go to out: that of a read or a fill to the
- * first place, a request's reserved bytes to the first and its pool bytes to the
+/* The numbers that a call hands back go to out: that of a read, a need or a fill to
+ * the first place, a request's reserved bytes to the first and its pool bytes to the
  * second. */
 enum { NUMBERS = 2 };
 
 #define FOUR(s)                                                                \
     (s)[0].at, (s)[0].length, (s)[1].at, (s)[1].length, (s)[2].at,             \
         (s)[2].length, (s)[3].at, (s)[3].length
-#define SIX(s) FOUR(s), (s)[4].at, (s)[4].length, (s)[5].at, (s)[5].length
+#define SEVEN(s)                                                               \
+    FOUR(s), (s)[4].at, (s)[4].length, (s)[5].at, (s)[5].length, (s)[6].at,    \
+        (s)[6].length
 
 static uint64_t call_bandwidth(const struct interface *f, const struct slice *b,
                                const struct call *c, uint64_t *const out[NUMBERS])
@@ -296,19 +320,23 @@ static uint64_t call_bandwidth(const struct interface *f, const struct slice *b,
     const struct setup *s = &c->setup;
     switch (c->kind) {
     case RESET:
-        return f->bandwidth_reset(s->nbwblks, s->mrbwb, s->nr, s->na, s->nm, s->q, s->w, SIX(b));
+        return f->bandwidth_reset(s->nbwblks, s->mrbwb, s->nr, s->na, s->nm, s->q, s->w, SEVEN(b));
     case READ:
-        return f->bandwidth_read(SIX(b), c->size, c->offset, out[0]);
+        return f->bandwidth_read(SEVEN(b), c->size, c->offset, out[0]);
     case WRITE:
-        return f->bandwidth_write(SIX(b), c->size, c->offset, c->value);
+        return f->bandwidth_write(SEVEN(b), c->size, c->offset, c->value);
     case REQUEST:
-        return f->bandwidth_request(SIX(b), c->rcid, c->mcid, c->at, c->which, c->bytes, out[0],
+        return f->bandwidth_request(SEVEN(b), c->rcid, c->mcid, c->at, c->which, c->bytes, out[0],
                                     out[1]);
     case DEVICE_REQUEST:
-        return f->bandwidth_device_request(SIX(b), c->mode, c->word, c->at, c->which, c->bytes,
+        return f->bandwidth_device_request(SEVEN(b), c->mode, c->word, c->at, c->which, c->bytes,
                                            out[0], out[1]);
+    case WAIT:
+        return f->bandwidth_wait(SEVEN(b), c->rcid, c->mcid, c->at, c->which, c->bytes);
+    case NEED:
+        return f->bandwidth_need(SEVEN(b), c->rcid, out[0]);
     default:
-        return f->bandwidth_end_window(SIX(b));
+        return f->bandwidth_end_window(SEVEN(b));
     }
 }
 
@@ -332,7 +360,7 @@ static uint64_t call_capacity(const struct interface *f, const struct slice *b,
 
 /* The controllers */
 
-enum { ANSWERS = 10, KINDS = 6 };
+enum { ANSWERS = 12, KINDS = 8 };
 
 struct controller {
     const char *name, *calls[KINDS]; /* by kind, as many as it has */
@@ -341,6 +369,7 @@ struct controller {
     unsigned answers;            /* bit N: some call answers N */
     size_t record;               /* bytes */
     unsigned widths[MAX_SLICES]; /* bytes of a word in each slice */
+    char words[MAX_SLICES + 1];  /* of a pair (p), an MCID (m) or an RCID (r) */
     void (*random_state)(const struct slice *list, const struct setup *s);
     uint64_t (*call)(const struct interface *f, const struct slice *list, const struct call *c,
                      uint64_t *const out[NUMBERS]);
@@ -348,11 +377,12 @@ struct controller {
 
 enum { CONTROLLERS = 2 };
 static const struct controller controllers[CONTROLLERS] = {
-    {"bandwidth", {"reset", "read", "write", "request", "end_window", "device_request"},
-     {0, 1, 0, 2, 0, 2}, 0, BANDWIDTH_SLICES_END, 24, 0x2ff, 96, {8, 4, 4, 4, 8, 2},
-     random_bandwidth, call_bandwidth},
+    {"bandwidth",
+     {"reset", "read", "write", "request", "end_window", "device_request", "wait", "need"},
+     {0, 1, 0, 2, 0, 2, 0, 1}, 0, BANDWIDTH_SLICES_END, 32, 0xeff, 96, {8, 4, 4, 4, 8, 2, 8},
+     ".pppmmr", random_bandwidth, call_bandwidth},
     {"capacity", {"reset", "read", "write", "fill", "evict"}, {0, 1, 0, 1, 0}, 1,
-     CAPACITY_SLICES_END, 12, 0x1ff, 72, {8, 8, 8, 2}, random_capacity, call_capacity},
+     CAPACITY_SLICES_END, 12, 0x1ff, 72, {8, 8, 8, 2}, ".pmm", random_capacity, call_capacity},
 };
 
 /* Slices with memory of their own, for the largest set-up. */
@@ -364,7 +394,8 @@ struct memory {
 static void fit(struct memory *m, const struct controller *k, const struct setup *s)
 {
     for (int i = 0; i < k->slices; i++) {
-        size_t length = k->widths[i] * (i < k->slices - 2 ? s->nr * s->na : s->nm);
+        char by = k->words[i];
+        size_t length = k->widths[i] * (by == 'm' ? s->nm : by == 'r' ? s->nr : s->nr * s->na);
         m->list[i] = (struct slice){(uint8_t *)m->words[i], i == RECORD ? k->record : length};
     }
 }

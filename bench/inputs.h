@@ -107,6 +107,16 @@ static void state_mixed(const struct setup *s)
     must(cbqri_bandwidth_write(BANDWIDTH_OF(b), 8, CBQRI_ALLOC_CTL, 2), "state");
 }
 
+/* Under every RCID a request waits: for less than a block, for more than the largest
+ * reservation of a mixed state, or for all that can be asked, a third of them each. */
+static void all_wait(struct bandwidth_buffers *b, const struct setup *s)
+{
+    static const uint32_t needs[] = {Q / 2, 20 * Q + 1, UINT32_MAX};
+    for (uint64_t rcid = 0; rcid < s->nr; rcid++)
+        put_word(b->waiters, rcid, 8,
+                 cbqri_waiter(needs[rcid % 3], rcid % s->nm, rcid % s->na, rcid % 2));
+}
+
 /* Small requests, so that reservations last; CONFIG_LIMIT goes round 8 RCIDs
  * at most, AT 0, so that the tables keep their mixture. */
 static void make_list(const struct setup *s, int mixed)
@@ -116,7 +126,7 @@ static void make_list(const struct setup *s, int mixed)
         uint64_t rcid = upto(some) * (s->nr / (s->nr < 8 ? s->nr : 8));
         list[i] = (struct arguments){
             .rcid = upto(s->nr), .mcid = upto(s->nm), .at = upto(s->na),
-            .which = upto(2), .bytes = (uint32_t)upto(64),
+            .which = upto(2), .bytes = 1 + (uint32_t)upto(63),
             .ctl = cbqri_alloc_ctl(CBQRI_CONFIG_LIMIT, 0, rcid)};
         list[i].ta = cbqri_dc_ta(list[i].rcid, list[i].mcid);
     }

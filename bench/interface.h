@@ -21,6 +21,10 @@ struct interface {
     uint64_t (*bandwidth_device_request)(BANDWIDTH_SLICES(), uint64_t mode,
                                          uint64_t word, uint64_t at, uint64_t kind,
                                          uint32_t bytes, uint64_t *reserved, uint64_t *pool);
+    uint64_t (*bandwidth_wait)(BANDWIDTH_SLICES(), uint64_t rcid, uint64_t mcid,
+                               uint64_t at, uint64_t kind, uint32_t bytes);
+    uint64_t (*bandwidth_need)(BANDWIDTH_SLICES(const), uint64_t rcid,
+                               uint64_t *need);
     uint64_t (*bandwidth_end_window)(BANDWIDTH_SLICES());
     uint64_t (*capacity_reset)(uint64_t ncblks, uint64_t nr, uint64_t na,
                                uint64_t nm, uint64_t w, CAPACITY_SLICES());
@@ -39,12 +43,13 @@ struct interface {
         label, JOIN(prefix, bandwidth_reset), JOIN(prefix, bandwidth_read),    \
             JOIN(prefix, bandwidth_write), JOIN(prefix, bandwidth_request),    \
             JOIN(prefix, bandwidth_device_request),                            \
+            JOIN(prefix, bandwidth_wait), JOIN(prefix, bandwidth_need),        \
             JOIN(prefix, bandwidth_end_window), JOIN(prefix, capacity_reset),  \
             JOIN(prefix, capacity_read), JOIN(prefix, capacity_write),         \
             JOIN(prefix, capacity_fill), JOIN(prefix, capacity_evict)          \
     }
 
-enum { MAX_PAIRS = 256 * 8, MAX_MCIDS = 256 };
+enum { MAX_PAIRS = 256 * 8, MAX_MCIDS = 256, MAX_RCIDS = 256 };
 
 /* Buffers of either controller, large enough for every set-up; lengths are in
  * bytes. A little-endian host has the same bytes in the tables whichever way
@@ -54,7 +59,8 @@ struct bandwidth_buffers {
     uint32_t active[MAX_PAIRS], configured[MAX_PAIRS], used[MAX_PAIRS];
     uint64_t counters[MAX_MCIDS];
     uint16_t events[MAX_MCIDS];
-    size_t record_len, active_len, configured_len, used_len, counters_len, events_len;
+    uint64_t waiters[MAX_RCIDS];
+    size_t record_len, active_len, configured_len, used_len, counters_len, events_len, waiters_len;
 };
 
 struct capacity_buffers {
@@ -68,7 +74,8 @@ struct capacity_buffers {
     (b)->record, (b)->record_len, (uint8_t *)(b)->active, (b)->active_len,     \
         (uint8_t *)(b)->configured, (b)->configured_len, (uint8_t *)(b)->used, \
         (b)->used_len, (uint8_t *)(b)->counters, (b)->counters_len,            \
-        (uint8_t *)(b)->events, (b)->events_len
+        (uint8_t *)(b)->events, (b)->events_len, (uint8_t *)(b)->waiters,      \
+        (b)->waiters_len
 #define CAPACITY_OF(c)                                                         \
     (c)->record, (c)->record_len, (uint8_t *)(c)->masks, (c)->masks_len,       \
         (uint8_t *)(c)->counters, (c)->counters_len, (uint8_t *)(c)->events,   \
@@ -81,6 +88,7 @@ static inline void bandwidth_lengths(struct bandwidth_buffers *b, uint64_t nr,
     b->active_len = b->configured_len = b->used_len = 4 * nr * na;
     b->counters_len = 8 * nm;
     b->events_len = 2 * nm;
+    b->waiters_len = 8 * nr;
 }
 
 static inline void capacity_lengths(struct capacity_buffers *c, uint64_t nr,

@@ -151,7 +151,8 @@ static void answer_s(struct text *t)
     uint64_t refusal = plain_bandwidth_reset(
         n[0], n[1], n[2], n[3], n[4], n[5], n[6], c->record, sizeof c->record,
         (uint8_t *)c->active, settings, (uint8_t *)c->configured, settings, (uint8_t *)c->used,
-        settings, (uint8_t *)c->counters, 8 * n[4], (uint8_t *)c->events, 2 * n[4]);
+        settings, (uint8_t *)c->counters, 8 * n[4], (uint8_t *)c->events, 2 * n[4],
+        (uint8_t *)c->waiters, 8 * n[2]);
     if (!refusal) {
         bandwidth_lengths(c, n[2], n[3], n[4]);
         set_up = true;

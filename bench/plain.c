@@ -5,7 +5,7 @@
  * get the functions under the library's own names.
  *
  * tuned.c includes this file and has the tables checked by functions of its
- * own, named by the two macros below.
+ * own, named by the three macros below.
  */
 #include "plain.h"
 
@@ -14,6 +14,7 @@
 
 #ifndef BANDWIDTH_TABLES_OK
 #define BANDWIDTH_TABLES_OK bandwidth_tables_ok
+#define WAITERS_OK waiters_ok
 #define CAPACITY_TABLES_OK capacity_tables_ok
 #endif
 
@@ -30,7 +31,9 @@ enum {
     REFUSED_VALUE,
     REFUSED_IDENTIFIER,
     REFUSED_BLOCK,
-    REFUSED_DEVICE_CONTEXT
+    REFUSED_DEVICE_CONTEXT,
+    REFUSED_ALREADY_WAITS,
+    REFUSED_NO_BYTES
 };
 
 enum { CAPABILITIES = 0, MON_CTL = 8, MON_CTR_VAL = 16, ALLOC_CTL = 24, ALLOC = 32, END = 40 };
@@ -42,6 +45,7 @@ enum { CAPABILITIES = 0, MON_CTL = 8, MON_CTR_VAL = 16, ALLOC_CTL = 24, ALLOC = 
 #define USE_SHARED UINT32_C(0x80000000)
 #define SETTING (RBWB | MWEIGHT | SHARED_AT | USE_SHARED)
 #define MWEIGHT_1 UINT32_C(0x00100000)
+#define MWEIGHT_LOW 20
 #define SHARED_AT_LOW 28
 
 /* Fields of the control registers; STATUS is set by the operation alone. */
@@ -54,6 +58,12 @@ enum { CAPABILITIES = 0, MON_CTL = 8, MON_CTR_VAL = 16, ALLOC_CTL = 24, ALLOC = 
 /* Fields of a counter setting. */
 #define EVENT_ATV UINT32_C(0x0800)
 #define EVENT_UNNAMED UINT32_C(0xf000)
+
+/* Fields of a word of waiters. */
+#define WAITER_MCID_LOW 32
+#define WAITER_AT_LOW 40
+#define WAITER_WRITE_LOW 43
+#define WAITER_END 44
 
 /* Flags of the counter words. */
 #define BANDWIDTH_OVF (UINT64_C(1) << 63)
@@ -82,9 +92,10 @@ struct bandwidth_record {
 
 struct bandwidth {
     struct bandwidth_record r;
-    uint8_t *record, *active, *configured, *used;
+    uint8_t *record, *active, *configured, *used, *waiters;
     struct monitor monitor;
     uint64_t active_sum, configured_sum; /* all Rbwb, set by check 3 */
+    uint64_t waiting;                    /* not 0 if a request waits, likewise */
 };
 
 struct capacity_record {
@@ -207,6 +218,8 @@ static bool pool_ok(const struct bandwidth *b)
 /* Reads both settings tables, the used words, the counters and their settings,
  * and sets the two sums. */
 static bool BANDWIDTH_TABLES_OK(struct bandwidth *b);
+/* Reads the waiters, and sets whether a request waits. */
+static bool WAITERS_OK(struct bandwidth *b);
 /* Reads the masks, the counters and their settings. */
 static bool CAPACITY_TABLES_OK(const struct capacity *c);
 
@@ -284,6 +297,25 @@ static bool events_ok(const struct monitor *m)
     return true;
 }
 
+static bool waiter_ok(uint64_t word, uint64_t nm, uint64_t na)
+{
+    return field(word, 0, 32) != 0 && field(word, WAITER_MCID_LOW, 8) < nm &&
+           field(word, WAITER_AT_LOW, 3) < na && word >> WAITER_END == 0;
+}
+
+static bool waiters_ok(struct bandwidth *b)
+{
+    uint64_t all = 0;
+    for (uint64_t i = 0; i < b->r.nr; i++) {
+        uint64_t word = load64(b->waiters, i);
+        if (word != 0 && !waiter_ok(word, b->r.nm, b->r.na))
+            return false;
+        all |= word;
+    }
+    b->waiting = all;
+    return true;
+}
+
 static bool masks_ok(const struct capacity *c)
 {
     uint64_t outside = ~block_bits(c->r.ncblks);
@@ -317,13 +349,14 @@ static uint64_t bandwidth_attach(struct bandwidth *b, BANDWIDTH_SLICES())
     uint64_t settings_len = 4 * b->r.nr * b->r.na;
     (void)record_len;
     if (active_len != settings_len || configured_len != settings_len ||
-        used_len != settings_len ||
+        used_len != settings_len || waiters_len != 8 * b->r.nr ||
         !monitor_lengths_good(b->r.nm, counters_len, events_len))
         return REFUSED_LENGTH;
     b->record = record;
     b->active = active;
     b->configured = configured;
     b->used = used;
+    b->waiters = waiters;
     b->monitor = (struct monitor){b->r.na, b->r.nm, BANDWIDTH_LAST_EVENT, counters, events};
     return 0;
 }
@@ -344,7 +377,8 @@ static uint64_t capacity_attach(struct capacity *c, CAPACITY_SLICES())
 #define BANDWIDTH_PASSED                                                       \
     (uint8_t *)record, record_len, (uint8_t *)active, active_len,              \
         (uint8_t *)configured, configured_len, (uint8_t *)used, used_len,      \
-        (uint8_t *)counters, counters_len, (uint8_t *)events, events_len
+        (uint8_t *)counters, counters_len, (uint8_t *)events, events_len,      \
+        (uint8_t *)waiters, waiters_len
 #define CAPACITY_PASSED                                                        \
     (uint8_t *)record, record_len, (uint8_t *)masks, masks_len,                \
         (uint8_t *)counters, counters_len, (uint8_t *)events, events_len
@@ -361,7 +395,7 @@ static uint64_t bandwidth_open(struct bandwidth *b, BANDWIDTH_SLICES())
     if (refusal)
         return refusal;
     if (!registers_ok(&b->r.registers, b->r.na, SETTING) || !BANDWIDTH_TABLES_OK(b) ||
-        !pool_ok(b))
+        !pool_ok(b) || !WAITERS_OK(b))
         return REFUSED_STATE;
     return 0;
 }
@@ -585,7 +619,7 @@ static void capacity_perform_alloc(struct capacity *c, uint64_t value)
     c->r.registers.alloc_ctl = ctl | status << 32;
 }
 
-/* Requests and cache events */
+/* Requests, waiters and cache events */
 
 /* Whether the counter counts this kind (1 all, 2 reads, 3 writes, or 1
  * occupancy) and this AT. */
@@ -612,6 +646,17 @@ static void count_bytes(struct bandwidth *b, uint64_t mcid, uint64_t at,
     if (sum >> b->r.w)
         flags |= BANDWIDTH_OVF;
     store64(b->monitor.counters, mcid, field(sum, 0, (unsigned)b->r.w) | flags);
+}
+
+/* The place of the holder in force that a pair's requests are led to, or NOBODY. */
+#define NOBODY UINT64_MAX
+static uint64_t holder_of(const struct bandwidth *b, uint64_t rcid, uint64_t at)
+{
+    uint64_t row = rcid * b->r.na;
+    uint32_t word = load32(b->active, row + at);
+    if (word == 0)
+        return NOBODY;
+    return row + (word & USE_SHARED ? field(word, SHARED_AT_LOW, 3) : at);
 }
 
 /* Bytes of the holder's reservation and of the pool. */
@@ -644,17 +689,67 @@ static uint64_t request(struct bandwidth *b, uint64_t out_of_range, uint64_t rci
         return out_of_range;
     if (at >= b->r.na)
         at = 0;
-    uint64_t row = rcid * b->r.na;
-    uint32_t word = load32(b->active, row + at);
-    if (word == 0)
+    uint64_t holder = holder_of(b, rcid, at);
+    if (holder == NOBODY)
         return 0;
-    uint64_t holder = word & USE_SHARED ? field(word, SHARED_AT_LOW, 3) : at;
-    struct grant g = take_bytes(b, row + holder, bytes);
+    struct grant g = take_bytes(b, holder, bytes);
     count_bytes(b, mcid, at, kind, g.reserved + g.pool);
     bandwidth_save(b);
     *reserved = g.reserved;
     *pool = g.pool;
     return 0;
+}
+
+/* Takes what a waiter is served off its need, and counts it. */
+static void serve(struct bandwidth *b, uint64_t rcid, uint64_t bytes)
+{
+    uint64_t word = load64(b->waiters, rcid);
+    count_bytes(b, field(word, WAITER_MCID_LOW, 8), field(word, WAITER_AT_LOW, 3),
+                field(word, WAITER_WRITE_LOW, 1), bytes);
+    store64(b->waiters, rcid, field(word, 0, 32) == bytes ? 0 : word - bytes);
+}
+
+/* The settings word in force by which a waiter is served, and its holder's place;
+ * 0 if none waits, or if nobody serves it. */
+static uint32_t server_of(const struct bandwidth *b, uint64_t rcid, uint64_t *holder)
+{
+    uint64_t word = load64(b->waiters, rcid);
+    *holder = word == 0 ? NOBODY : holder_of(b, rcid, field(word, WAITER_AT_LOW, 3));
+    return *holder == NOBODY ? 0 : load32(b->active, *holder);
+}
+
+/* Serves each waiter from its holder's reservation, which is whole. Hands back the
+ * Mweights of the holders whose waiters still need bytes. */
+static uint64_t serve_reserved(struct bandwidth *b)
+{
+    uint64_t weights = 0, holder;
+    for (uint64_t rcid = 0; rcid < b->r.nr; rcid++) {
+        uint32_t word = server_of(b, rcid, &holder);
+        if (word == 0)
+            continue;
+        uint64_t need = field(load64(b->waiters, rcid), 0, 32);
+        uint64_t own = smaller(need, (word & RBWB) * b->r.q);
+        store32(b->used, holder, (uint32_t)own);
+        serve(b, rcid, own);
+        if (own < need)
+            weights += field(word, MWEIGHT_LOW, 8);
+    }
+    return weights;
+}
+
+/* Serves each waiter that still needs bytes its share of the pool, which is whole. */
+static void serve_pool(struct bandwidth *b, uint64_t weights)
+{
+    uint64_t pool = (b->r.nbwblks - b->active_sum) * b->r.q, holder;
+    for (uint64_t rcid = 0; rcid < b->r.nr; rcid++) {
+        uint64_t weight = field(server_of(b, rcid, &holder), MWEIGHT_LOW, 8);
+        if (weight == 0)
+            continue;
+        uint64_t need = field(load64(b->waiters, rcid), 0, 32);
+        uint64_t part = smaller(need, pool * weight / weights);
+        b->r.pool_given += part;
+        serve(b, rcid, part);
+    }
 }
 
 /* Adds to or takes from a matching occupancy counter, within 0 to 2^W - 1. */
@@ -701,6 +796,7 @@ uint64_t NAME(bandwidth_reset)(uint64_t nbwblks, uint64_t mrbwb, uint64_t nr,
     memset(used, 0, used_len);
     memset(counters, 0, counters_len);
     memset(events, 0, events_len);
+    memset(waiters, 0, waiters_len);
     bandwidth_save(&b);
     return 0;
 }
@@ -771,6 +867,39 @@ uint64_t NAME(bandwidth_device_request)(BANDWIDTH_SLICES(), uint64_t mode,
                    kind, bytes, reserved, pool); /* DC.ta */
 }
 
+uint64_t NAME(bandwidth_wait)(BANDWIDTH_SLICES(), uint64_t rcid, uint64_t mcid,
+                              uint64_t at, uint64_t kind, uint32_t bytes)
+{
+    struct bandwidth b;
+    uint64_t refusal = bandwidth_open(&b, BANDWIDTH_PASSED);
+    if (refusal)
+        return refusal;
+    if (rcid >= b.r.nr || mcid >= b.r.nm)
+        return REFUSED_IDENTIFIER;
+    if (load64(waiters, rcid) != 0)
+        return REFUSED_ALREADY_WAITS;
+    if (bytes == 0)
+        return REFUSED_NO_BYTES;
+    uint64_t known_at = at >= b.r.na ? 0 : at, write = kind != 0;
+    store64(waiters, rcid,
+            bytes | mcid << WAITER_MCID_LOW | known_at << WAITER_AT_LOW |
+                write << WAITER_WRITE_LOW);
+    return 0;
+}
+
+uint64_t NAME(bandwidth_need)(BANDWIDTH_SLICES(const), uint64_t rcid, uint64_t *need)
+{
+    struct bandwidth b;
+    *need = 0;
+    uint64_t refusal = bandwidth_open(&b, BANDWIDTH_PASSED);
+    if (refusal)
+        return refusal;
+    if (rcid >= b.r.nr)
+        return REFUSED_IDENTIFIER;
+    *need = field(load64(waiters, rcid), 0, 32);
+    return 0;
+}
+
 uint64_t NAME(bandwidth_end_window)(BANDWIDTH_SLICES())
 {
     struct bandwidth b;
@@ -779,7 +908,10 @@ uint64_t NAME(bandwidth_end_window)(BANDWIDTH_SLICES())
         return refusal;
     memcpy(active, configured, configured_len);
     memset(used, 0, used_len);
+    b.active_sum = b.configured_sum;
     b.r.pool_given = 0;
+    if (b.waiting)
+        serve_pool(&b, serve_reserved(&b));
     bandwidth_save(&b);
     return 0;
 }

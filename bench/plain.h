@@ -24,7 +24,8 @@
     Q uint8_t *record, size_t record_len, Q uint8_t *active,                   \
         size_t active_len, Q uint8_t *configured, size_t configured_len,       \
         Q uint8_t *used, size_t used_len, Q uint8_t *counters,                 \
-        size_t counters_len, Q uint8_t *events, size_t events_len
+        size_t counters_len, Q uint8_t *events, size_t events_len,             \
+        Q uint8_t *waiters, size_t waiters_len
 #define CAPACITY_SLICES(Q)                                                     \
     Q uint8_t *record, size_t record_len, Q uint8_t *masks, size_t masks_len,  \
         Q uint8_t *counters, size_t counters_len, Q uint8_t *events,           \
@@ -45,6 +46,9 @@ uint64_t NAME(bandwidth_request)(BANDWIDTH_SLICES(), uint64_t rcid,
 uint64_t NAME(bandwidth_device_request)(BANDWIDTH_SLICES(), uint64_t mode,
                                         uint64_t word, uint64_t at, uint64_t kind,
                                         uint32_t bytes, uint64_t *reserved, uint64_t *pool);
+uint64_t NAME(bandwidth_wait)(BANDWIDTH_SLICES(), uint64_t rcid, uint64_t mcid,
+                              uint64_t at, uint64_t kind, uint32_t bytes);
+uint64_t NAME(bandwidth_need)(BANDWIDTH_SLICES(const), uint64_t rcid, uint64_t *need);
 uint64_t NAME(bandwidth_end_window)(BANDWIDTH_SLICES());
 
 uint64_t NAME(capacity_reset)(uint64_t ncblks, uint64_t nr, uint64_t na,

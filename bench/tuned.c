@@ -17,12 +17,13 @@
 #define PREFIX tuned_
 #endif
 #define BANDWIDTH_TABLES_OK tuned_bandwidth_tables_ok
+#define WAITERS_OK tuned_waiters_ok
 #define CAPACITY_TABLES_OK tuned_capacity_tables_ok
 #include "plain.c"
 
 enum {
     PART = 128, /* words of a part, at most */
-    SMALL = 6   /* tables up to this many pairs are read the plain way */
+    SMALL = 6   /* tables up to this many words are read the plain way */
 };
 
 /* mark_bits[NA - 2][i]: bit 16 + AT, where AT is i modulo NA, and bits 31:24. */
@@ -235,6 +236,31 @@ static uint16_t events_bad(const struct monitor *m)
         bad |= at > top_at;
     }
     return bad;
+}
+
+/* Not 0 if a word of waiters is one that no call stores: the need is its low half,
+ * and MCID, AT and write stand in 11:0 of its high half. */
+static uint32_t waiters_bad(const struct bandwidth *b)
+{
+    uint32_t top_mcid = (uint32_t)b->r.nm - 1, top_at = (uint32_t)(b->r.na - 1) << 8;
+    uint32_t bad = 0;
+    for (size_t i = 0; i < b->r.nr; i++) {
+        uint32_t need = load32(b->waiters, 2 * i), rest = load32(b->waiters, 2 * i + 1);
+        bad |= rest >> 12;
+        bad |= need == 0 ? rest : 0;
+        bad |= (int32_t)(rest & 0xff) > (int32_t)top_mcid;
+        bad |= (int32_t)(rest & 0x700) > (int32_t)top_at;
+    }
+    return bad;
+}
+
+/* Where no request waits, that is all there is to see. */
+static bool tuned_waiters_ok(struct bandwidth *b)
+{
+    if (b->r.nr <= SMALL)
+        return waiters_ok(b);
+    b->waiting = any_word64(b->waiters, b->r.nr);
+    return b->waiting == 0 || waiters_bad(b) == 0;
 }
 
 static bool tuned_bandwidth_tables_ok(struct bandwidth *b)

@@ -5,7 +5,8 @@
  *     gcc emulator.c $(pkg-config --cflags --libs cbqri) -o emulator
  *
  * It has three parts: the machine (buffers, address map, traffic, devices), the
- * driver (reads and writes by address alone), and the story that main tells.
+ * driver (reads and writes by address alone), and the story that main tells. In it
+ * requests are granted in part, and some are put to wait instead of tried again.
  */
 #include <cbqri.h>
 
@@ -80,7 +81,8 @@ static void print_grant(uint64_t reserved, uint64_t pool)
     printf("%4" PRIu64 " reserved, %4" PRIu64 " of the pool\n", reserved, pool);
 }
 
-static void request(uint64_t rcid, uint64_t mcid, uint64_t at, int write, uint32_t bytes)
+/* Hands back how many bytes are not granted. */
+static uint32_t request(uint64_t rcid, uint64_t mcid, uint64_t at, int write, uint32_t bytes)
 {
     uint64_t reserved, pool;
     must(cbqri_bw_request(&bw, rcid, mcid, at, (uint64_t)write, bytes, &reserved, &pool),
@@ -88,6 +90,24 @@ static void request(uint64_t rcid, uint64_t mcid, uint64_t at, int write, uint32
     printf("  RCID %" PRIu64 " AT %" PRIu64 " MCID %" PRIu64 " %s %4" PRIu32 ": ", rcid, at, mcid,
            write ? "writes" : "reads ", bytes);
     print_grant(reserved, pool);
+    return bytes - (uint32_t)(reserved + pool);
+}
+
+/* What is not granted waits: it need not be asked for again. */
+static void request_and_wait(uint64_t rcid, uint64_t mcid, uint64_t at, int write, uint32_t bytes)
+{
+    uint32_t missing = request(rcid, mcid, at, write, bytes);
+    if (missing == 0)
+        return;
+    must(cbqri_bw_wait(&bw, rcid, mcid, at, (uint64_t)write, missing), "wait");
+    printf("  RCID %" PRIu64 " waits for %" PRIu32 "\n", rcid, missing);
+}
+
+static void print_need(uint64_t rcid)
+{
+    uint64_t need;
+    must(cbqri_bw_need(&bw, rcid, &need), "need");
+    printf("  RCID %" PRIu64 " needs %4" PRIu64 "%s\n", rcid, need, need ? "" : ", it is done");
 }
 
 static void fill(uint64_t rcid, uint64_t mcid, uint64_t at, uint64_t block)
@@ -253,6 +273,24 @@ static void device_story(void)
     driver_counter(BW_BASE, 3); /* the 1,280 */
 }
 
+/* Two jobs ask for more than a window has. Others' requests can't crowd them out: each
+ * window end serves both before anyone asks again. */
+static void waiter_story(void)
+{
+    printf("\n");
+    driver_event(BW_BASE, 0, CBQRI_EVENT_BYTES, 0, 0);
+    request_and_wait(1, 1, 0, 0, 6000); /* 960 reserved and all 1,280 of the pool */
+    request_and_wait(0, 0, 0, 0, 5000); /* 1,920 reserved */
+    end_window(4); /* each has its reservation; of the pool 1,066 and 213, by the weights 5 and 1 */
+    print_need(1);
+    print_need(0);
+    request(0, 0, 0, 0, 100); /* what waits came first: only what rounding left in the pool */
+    end_window(5); /* RCID 0 has enough of its reservation, so that RCID 1 has the pool alone */
+    print_need(1);
+    print_need(0);
+    driver_counter(BW_BASE, 0); /* all 5,000 of RCID 0, and the byte that it asked for beside */
+}
+
 static void capacity_story(void)
 {
     printf("\n");
@@ -285,6 +323,7 @@ int main(void)
     driver_probe();
     bandwidth_story();
     device_story();
+    waiter_story();
     capacity_story();
     return 0;
 }

@@ -3,7 +3,8 @@
  * them: the call with the board's memcpy and memset, and what its caller does
  * to hand over the arguments. Under qemu with -icount the counter is exact and
  * the output always the same. A number is the mean of CALLS calls with random
- * arguments, each on the same state: most pairs set, or after a reset.
+ * arguments, each on the same state: most pairs set, or after a reset. None waits,
+ * but in the line that says so a request under every RCID.
  */
 #include "../bench/inputs.h"
 
@@ -35,6 +36,8 @@ COUNT(bandwidth_write, BANDWIDTH, 8, CBQRI_ALLOC_CTL, a->ctl)
 COUNT(bandwidth_request, BANDWIDTH, a->rcid, a->mcid, a->at, a->which, a->bytes, &out, &pool)
 COUNT(bandwidth_device_request, BANDWIDTH, CBQRI_IOMMU_DIRECTORY, a->ta, a->at, a->which, a->bytes,
       &out, &pool)
+COUNT(bandwidth_wait, BANDWIDTH, a->rcid, a->mcid, a->at, a->which, a->bytes)
+COUNT(bandwidth_need, BANDWIDTH, a->rcid, &out)
 COUNT(bandwidth_end_window, BANDWIDTH)
 COUNT(capacity_reset, NCBLKS, size->nr, size->na, size->nm, W, CAPACITY)
 COUNT(capacity_read, CAPACITY, 8, CBQRI_BLOCK_MASK, &out)
@@ -42,13 +45,16 @@ COUNT(capacity_write, CAPACITY, 8, CBQRI_ALLOC_CTL, a->ctl)
 COUNT(capacity_fill, CAPACITY, a->rcid, a->mcid, a->at, a->bytes % NCBLKS, &out)
 COUNT(capacity_evict, CAPACITY, a->rcid, a->mcid, a->at, a->bytes % NCBLKS)
 
-#define NAMED(name) {"cbqri_" #name, name}
-static const struct {
+#define NAMED(name) {"cbqri_" #name, name, 0}
+static const struct entry {
     const char *name;
     uint64_t (*count)(const struct arguments *a);
+    int waiting;
 } entries[] = {
     NAMED(bandwidth_reset), NAMED(bandwidth_read), NAMED(bandwidth_write),
-    NAMED(bandwidth_request), NAMED(bandwidth_device_request), NAMED(bandwidth_end_window),
+    NAMED(bandwidth_request), NAMED(bandwidth_device_request), NAMED(bandwidth_wait),
+    NAMED(bandwidth_need), NAMED(bandwidth_end_window),
+    {"cbqri_bandwidth_end_window, all wait:", bandwidth_end_window, 1},
     NAMED(capacity_reset), NAMED(capacity_read), NAMED(capacity_write), NAMED(capacity_fill),
     NAMED(capacity_evict),
 };
@@ -67,12 +73,14 @@ static void make_start(int mixed)
          "operand");
 }
 
-static uint64_t mean(uint64_t (*count)(const struct arguments *a))
+static uint64_t mean(const struct entry *entry)
 {
     uint64_t sum = 0;
     for (int i = 0; i < CALLS; i++) {
         now = start;
-        sum += count(&list[i]);
+        if (entry->waiting)
+            all_wait(&now.bandwidth, size);
+        sum += entry->count(&list[i]);
     }
     return (sum + CALLS / 2) / CALLS;
 }
@@ -85,7 +93,7 @@ int main(void)
         for (int mixed = 0; mixed < 2; mixed++) {
             make_start(mixed);
             for (int i = 0; i < ENTRIES; i++)
-                means[i][s][mixed] = mean(entries[i].count);
+                means[i][s][mixed] = mean(&entries[i]);
         }
     }
     printf("instructions of a call, most pairs set and after a reset, at");

@@ -67,6 +67,8 @@ ENTRY(bandwidth_write, BANDWIDTH_OF(&bw), 8, offset, value)
 ENTRY(bandwidth_request, BANDWIDTH_OF(&bw), 0, 0, 0, 0, 6000, &out, &pool)
 ENTRY(bandwidth_device_request, BANDWIDTH_OF(&bw), CBQRI_IOMMU_DIRECTORY, cbqri_dc_ta(0, 0), 0, 0,
       6000, &out, &pool)
+ENTRY(bandwidth_wait, BANDWIDTH_OF(&bw), 0, 0, 0, 1, 6000)
+ENTRY(bandwidth_need, BANDWIDTH_OF(&bw), 0, &out)
 ENTRY(bandwidth_end_window, BANDWIDTH_OF(&bw))
 ENTRY(capacity_reset, 40, nr, na, nm, 24, CAPACITY_OF(&cc))
 ENTRY(capacity_read, CAPACITY_OF(&cc), 8, offset, &out)
@@ -77,7 +79,8 @@ ENTRY(capacity_evict, CAPACITY_OF(&cc), 0, 0, 0, 3)
 #define NAMED(name) {"cbqri_" #name, name}
 static const struct { const char *name; uint64_t (*call)(void); } entries[] = {
     NAMED(bandwidth_reset), NAMED(bandwidth_read), NAMED(bandwidth_write),
-    NAMED(bandwidth_request), NAMED(bandwidth_device_request), NAMED(bandwidth_end_window),
+    NAMED(bandwidth_request), NAMED(bandwidth_device_request), NAMED(bandwidth_wait),
+    NAMED(bandwidth_need), NAMED(bandwidth_end_window),
     NAMED(capacity_reset), NAMED(capacity_read), NAMED(capacity_write), NAMED(capacity_fill),
     NAMED(capacity_evict),
 };
@@ -91,7 +94,8 @@ static uint64_t measure(uint64_t (*call)(void))
     return used_stack();
 }
 
-/* The largest over every register; bw_alloc or block_mask first, so that CONFIG_LIMIT has an operand. */
+/* The largest over every register; bw_alloc or block_mask first, so that CONFIG_LIMIT has an
+ * operand. Under RCID 0 a request waits, but where one is put to wait. */
 static uint64_t largest(uint64_t (*call)(void), int size)
 {
     uint64_t largest = 0;
@@ -104,6 +108,7 @@ static uint64_t largest(uint64_t (*call)(void), int size)
     value = cbqri_mon_ctl(CBQRI_CONFIG_EVENT, 0, 0, CBQRI_EVENT_BYTES, 0);
     for (offset = CBQRI_SPAN; offset > 0;) {
         offset -= 8;
+        put_word(bw.waiters, 0, 8, call == bandwidth_wait ? 0 : cbqri_waiter(6000, 0, 0, 1));
         uint64_t used = measure(call);
         largest = used > largest ? used : largest;
     }

@@ -1,10 +1,11 @@
 /*
- * The cases of rules P1 to P12 with their numbers, a few of a device's request
- * and of an RCID's weight, then random calls on both controllers from a fixed
- * seed. Its output is the same on every machine: a line for each 100 calls has
- * their 100 answers (0, or the refusal's number) and a checksum of all that the
- * calls so far have handed back and left in record and tables. It ends with 1
- * where a case has another number, or some answer never came up.
+ * The cases of rules P1 to P12 with their numbers, a few of a device's request, of
+ * an RCID's weight and of requests that wait, then random calls on both controllers
+ * from a fixed seed. Its output is the same on every machine: a line for each 100
+ * calls has their 100 answers (0, or the refusal's number, a and b for 10 and 11)
+ * and a checksum of all that the calls so far have handed back and left in record
+ * and tables. It ends with 1 where a case has another number, or some answer never
+ * came up.
  */
 #include "../bench/calls.h"
 
@@ -91,6 +92,18 @@ static uint64_t device_refusal(uint64_t mode, uint64_t word)
     return answer;
 }
 
+static uint64_t put_to_wait(uint64_t rcid, uint64_t mcid, uint64_t at, uint32_t bytes)
+{
+    return cbqri_bandwidth_wait(BANDWIDTH_OF(&b), rcid, mcid, at, 0, bytes);
+}
+
+static uint64_t need_of(uint64_t rcid)
+{
+    uint64_t need = 1;
+    failed |= cbqri_bandwidth_need(BANDWIDTH_OF(&b), rcid, &need) != 0;
+    return need;
+}
+
 static void settings_cases(void)
 {
     set_up(2);
@@ -151,6 +164,39 @@ static void weight_cases(void)
     expect("weight, beside a sharer", get_word(b.configured, 0, 4), cbqri_holder(30, 7));
 }
 
+/* RCIDs 0 and 1 have 1,920 bytes and the weights 1 and 5, RCID 2 has 1,280 and no
+ * weight, and the pool 1,280; RCID 3 is not set. */
+static void waiter_cases(void)
+{
+    uint64_t refused = 1;
+    set_up(2);
+    limit(0x001, cbqri_holder(30, 1));
+    limit(0x101, cbqri_holder(30, 5));
+    limit(0x121, cbqri_sharer(0));
+    limit(0x201, cbqri_holder(20, 0));
+    operation(CBQRI_MON_CTL, cbqri_mon_ctl(CBQRI_CONFIG_EVENT, 0, 1, CBQRI_EVENT_READS, 0));
+    expect("wait, RCID 0", put_to_wait(0, 0, 0, 2500), 0);
+    expect("wait, RCID 1, by its sharer", put_to_wait(1, 1, 1, 4000), 0);
+    expect("wait, RCID 2", put_to_wait(2, 2, 2, 1500), 0);
+    expect("wait, RCID 3", put_to_wait(3, 3, 0, 1), 0);
+    expect("wait, again", put_to_wait(1, 1, 1, 0), CBQRI_REFUSED_ALREADY_WAITS);
+    expect("wait, RCID 4", put_to_wait(4, 0, 0, 0), CBQRI_REFUSED_IDENTIFIER);
+    expect("need, RCID 4", cbqri_bandwidth_need(BANDWIDTH_OF(&b), 4, &refused), 7);
+    expect("need, refused", refused, 0);
+    expect("window end", cbqri_bandwidth_end_window(BANDWIDTH_OF(&b)), 0);
+    expect("need, a sixth of the pool", need_of(0), 2500 - 1920 - 213);
+    expect("need, five sixths", need_of(1), 4000 - 1920 - 1066);
+    expect("need, no weight", need_of(2), 1500 - 1280);
+    expect("need, nobody serves it", need_of(3), 1);
+    expect("waiters, RCID 1", get_word(b.waiters, 1, 8), cbqri_waiter(1014, 1, 1, 0));
+    expect("waiters, given by the pool", get_word(b.record, 11, 8), 1279);
+    expect("waiters, MCID 1", get_word(b.counters, 1, 8), 2986);
+    expect_grant("a request beside a waiter", granted(2, 0, 1), 0, 0);
+    expect("window end", cbqri_bandwidth_end_window(BANDWIDTH_OF(&b)), 0);
+    expect("need, done", need_of(0) + need_of(1) + need_of(2), 0);
+    expect("wait, 0 bytes", put_to_wait(0, 0, 0, 0), CBQRI_REFUSED_NO_BYTES);
+}
+
 static void lone_cases(void)
 {
     set_up(2);
@@ -191,7 +237,7 @@ static void trace_call(const struct controller *k, const struct slice *list, con
     add(t, bytes, sizeof bytes);
     failed |= answer >= ANSWERS;
     t->answers[c->kind][answer % ANSWERS]++;
-    t->line[t->count++ % LINE] = (char)('0' + answer % ANSWERS);
+    t->line[t->count++ % LINE] = "0123456789ab"[answer % ANSWERS];
     if (t->count % LINE == 0)
         printf("%s %5" PRIu64 " %s %016" PRIx64 "\n", k->name, t->count, t->line, t->checksum);
 }
@@ -219,6 +265,7 @@ int main(void)
     window_cases();
     device_cases();
     weight_cases();
+    waiter_cases();
     lone_cases();
     for (int i = 0; i < CONTROLLERS; i++)
         while (traces[i].count < CALLS)

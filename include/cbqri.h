@@ -51,9 +51,9 @@
  * - Record, tables and the numbers that a call hands back must not overlap one
  *   another, and no pointer may be NULL.
  * - Calls on buffers that have no byte in common may run at the same time.
- *   Reads (cbqri_bandwidth_read, cbqri_capacity_read) of the same buffers may
- *   run at the same time too: a read writes nothing but *value. Any other call
- *   must have its buffers for itself.
+ *   Reads (cbqri_bandwidth_read, cbqri_bandwidth_need, cbqri_capacity_read) of
+ *   the same buffers may run at the same time too: a read writes nothing but
+ *   *value or *need. Any other call must have its buffers for itself.
  * - Buffers may be saved and restored like any bytes. A state that one version
  *   saved is taken by every version with the same major number and, while that
  *   is 0, the same minor number, and means the same there. Keep CBQRI_VERSION
@@ -62,8 +62,8 @@
  *
  * Every function returns 0, or the number of a refusal (below). A refused call
  * has changed no byte of record and tables; what it hands back through pointers
- * (*value, *reserved and *pool, *allowed) it sets to 0, so that no number of an
- * earlier call stays there.
+ * (*value, *reserved and *pool, *need, *allowed) it sets to 0, so that no number
+ * of an earlier call stays there.
  *
  * Refusals are about the caller: what a driver asks of a register shows in
  * STATUS, and the call that carried its write returns 0. Three of them a driver
@@ -78,7 +78,8 @@
  * 6 does not come up if the emulator passes on no more bytes of a value than the
  * access has. Any other refusal is a fault of the emulator; it is also the
  * emulator that keeps an RCID and MCID of its guest below NR and NM (7), those
- * in iommu_qosid too.
+ * in iommu_qosid too, and that puts no second request and none for 0 bytes to
+ * wait (10, 11).
  *
  *
  * SET-UP
@@ -113,7 +114,7 @@
  * TABLES
  *
  * Those with a word for each pair hold the pair of RCID and AT at index
- * RCID * NA + AT; those of counters go by MCID.
+ * RCID * NA + AT; those of counters go by MCID, waiters by RCID.
  *
  *   bandwidth: active      settings in force           4 bytes a pair
  *              configured  settings configured         4 bytes a pair
@@ -121,12 +122,16 @@
  *   capacity:  masks       block masks                 8 bytes a pair
  *   both:      counters    counter words               8 bytes an MCID
  *              events      counter settings            2 bytes an MCID
+ *   bandwidth: waiters     requests that wait          8 bytes an RCID
  *
  * A setting is 0 for a pair never set, or has the fields of bw_alloc: a holder
  * has useShared 0, Rbwb other than 0 and sharedAT 0; a sharer has useShared 1
  * and sharedAT, a holder of the same RCID, and Rbwb and Mweight 0.
  * A counter word has the fields of mon_ctr_val. A counter setting has EVT_ID
  * in bits 7:0, AT in 10:8 and ATV in 11, and is 0 while the counter is stopped.
+ * A word of waiters has the need, the bytes that the request still waits for, in
+ * bits 31:0, MCID in 39:32, AT in 42:40 and write in 43, and is 0 where none
+ * waits.
  *
  * Record and tables are well formed, as refusal 3 asks, when
  * - both settings tables hold only such words, and in each the holders of an
@@ -138,6 +143,8 @@
  * - counters are below 2^W, flags aside;
  * - a counter setting is 0 or has a known EVT_ID other than 0, with ATV 1 only
  *   if NA is above 1 and AT below NA, and AT 0 if ATV is 0;
+ * - a word of waiters is 0 or has a need other than 0, MCID below NM, AT below NA
+ *   and no bit above 43;
  * - registers have no bit outside their fields, BUSY is 0 and, with NA 1, the
  *   AT and ATV of the control registers are 0.
  *
@@ -183,11 +190,11 @@
 #include <stdint.h>
 
 /* The version of this header and of the library beside it (CHANGELOG.md).
- * CBQRI_VERSION is one number, to be compared: 5000 for 0.5.0. */
+ * CBQRI_VERSION is one number, to be compared: 6000 for 0.6.0. */
 #define CBQRI_VERSION_MAJOR 0
-#define CBQRI_VERSION_MINOR 5
+#define CBQRI_VERSION_MINOR 6
 #define CBQRI_VERSION_PATCH 0
-#define CBQRI_VERSION_STRING "0.5.0"
+#define CBQRI_VERSION_STRING "0.6.0"
 #define CBQRI_VERSION                                                                     \
     (CBQRI_VERSION_MAJOR * 1000000 + CBQRI_VERSION_MINOR * 1000 + CBQRI_VERSION_PATCH)
 
@@ -203,18 +210,21 @@ extern "C" {
 #define CBQRI_MASKS_LEN(nr, na) (8 * (size_t)(nr) * (size_t)(na))
 #define CBQRI_COUNTERS_LEN(nm) (8 * (size_t)(nm))
 #define CBQRI_EVENTS_LEN(nm) (2 * (size_t)(nm))
+#define CBQRI_WAITERS_LEN(nr) (8 * (size_t)(nr))
 
 /* Refusals. Of those that a call can give, the one with the lower number is checked first. */
 enum {
-    CBQRI_REFUSED_SETUP = 1,         /* set-up outside its ranges, or a record of another length */
-    CBQRI_REFUSED_LENGTH = 2,        /* a table of another length than the set-up says */
-    CBQRI_REFUSED_STATE = 3,         /* record or table not well formed; not checked by a reset */
-    CBQRI_REFUSED_SIZE = 4,          /* access neither of 4 nor of 8 bytes */
-    CBQRI_REFUSED_OFFSET = 5,        /* offset no multiple of the size, or the end beyond byte 40 */
-    CBQRI_REFUSED_VALUE = 6,         /* 4-byte write of a value of 2^32 or more */
-    CBQRI_REFUSED_IDENTIFIER = 7,    /* RCID at or above NR, or MCID at or above NM */
-    CBQRI_REFUSED_BLOCK = 8,         /* block at or above NCBLKS */
-    CBQRI_REFUSED_DEVICE_CONTEXT = 9 /* a device context with an RCID or MCID as in 7 */
+    CBQRI_REFUSED_SETUP = 1,          /* set-up outside its ranges, or a record of another length */
+    CBQRI_REFUSED_LENGTH = 2,         /* a table of another length than the set-up says */
+    CBQRI_REFUSED_STATE = 3,          /* record or table not well formed; not checked by a reset */
+    CBQRI_REFUSED_SIZE = 4,           /* access neither of 4 nor of 8 bytes */
+    CBQRI_REFUSED_OFFSET = 5,         /* offset no multiple of the size, or end beyond byte 40 */
+    CBQRI_REFUSED_VALUE = 6,          /* 4-byte write of a value of 2^32 or more */
+    CBQRI_REFUSED_IDENTIFIER = 7,     /* RCID at or above NR, or MCID at or above NM */
+    CBQRI_REFUSED_BLOCK = 8,          /* block at or above NCBLKS */
+    CBQRI_REFUSED_DEVICE_CONTEXT = 9, /* a device context with an RCID or MCID as in 7 */
+    CBQRI_REFUSED_ALREADY_WAITS = 10, /* a request already waits under that RCID */
+    CBQRI_REFUSED_NO_BYTES = 11       /* a request for 0 bytes is put to wait */
 };
 
 /* Register offsets. */
@@ -306,6 +316,13 @@ static inline uint64_t cbqri_dc_ta(uint64_t rcid, uint64_t mcid)
     return (rcid & 0xfff) << 40 | (mcid & 0xfff) << 52;
 }
 
+/* A word of waiters: a request that waits for so many bytes; write is 1 if it
+ * writes. */
+static inline uint64_t cbqri_waiter(uint32_t need, uint64_t mcid, uint64_t at, uint64_t write)
+{
+    return need | (mcid & 0xff) << 32 | (at & 7) << 40 | (write & 1) << 43;
+}
+
 /* STATUS of a control register's word. */
 static inline uint64_t cbqri_status(uint64_t ctl)
 {
@@ -335,8 +352,8 @@ static inline uint64_t cbqri_status(uint64_t ctl)
 
 /* Sets the controller up anew, whatever record and tables held. RCID 0 with
  * AT 0 holds MRBWB blocks with Mweight 1 and its other ATs share AT 0, in
- * force at once; no other pair is set. Counters and registers are 0.
- * Refusals: 1, 2. */
+ * force at once; no other pair is set. Counters and registers are 0, and no
+ * request waits. Refusals: 1, 2. */
 uint64_t cbqri_bandwidth_reset(uint64_t nbwblks, uint64_t mrbwb, uint64_t nr, uint64_t na,
                                uint64_t nm, uint64_t q, uint64_t w,
                                uint8_t *record, size_t record_len,
@@ -344,7 +361,8 @@ uint64_t cbqri_bandwidth_reset(uint64_t nbwblks, uint64_t mrbwb, uint64_t nr, ui
                                uint8_t *configured, size_t configured_len,
                                uint8_t *used, size_t used_len,
                                uint8_t *counters, size_t counters_len,
-                               uint8_t *events, size_t events_len);
+                               uint8_t *events, size_t events_len,
+                               uint8_t *waiters, size_t waiters_len);
 
 /* A driver's read of size bytes at offset: the register, or the half of it
  * that lies there, goes to *value. Refusals: 1 to 5. */
@@ -354,6 +372,7 @@ uint64_t cbqri_bandwidth_read(const uint8_t *record, size_t record_len,
                               const uint8_t *used, size_t used_len,
                               const uint8_t *counters, size_t counters_len,
                               const uint8_t *events, size_t events_len,
+                              const uint8_t *waiters, size_t waiters_len,
                               uint64_t size, uint64_t offset, uint64_t *value);
 
 /* A driver's write of size bytes at offset, with the operation it performs.
@@ -364,6 +383,7 @@ uint64_t cbqri_bandwidth_write(uint8_t *record, size_t record_len,
                                uint8_t *used, size_t used_len,
                                uint8_t *counters, size_t counters_len,
                                uint8_t *events, size_t events_len,
+                               uint8_t *waiters, size_t waiters_len,
                                uint64_t size, uint64_t offset, uint64_t value);
 
 /* A request to read (kind 0) or write (any other kind) so many bytes. An AT at
@@ -389,6 +409,7 @@ uint64_t cbqri_bandwidth_request(uint8_t *record, size_t record_len,
                                  uint8_t *used, size_t used_len,
                                  uint8_t *counters, size_t counters_len,
                                  uint8_t *events, size_t events_len,
+                                 uint8_t *waiters, size_t waiters_len,
                                  uint64_t rcid, uint64_t mcid, uint64_t at, uint64_t kind,
                                  uint32_t bytes, uint64_t *reserved, uint64_t *pool);
 
@@ -402,25 +423,69 @@ uint64_t cbqri_bandwidth_device_request(uint8_t *record, size_t record_len,
                                         uint8_t *used, size_t used_len,
                                         uint8_t *counters, size_t counters_len,
                                         uint8_t *events, size_t events_len,
+                                        uint8_t *waiters, size_t waiters_len,
                                         uint64_t mode, uint64_t word, uint64_t at,
                                         uint64_t kind, uint32_t bytes, uint64_t *reserved,
                                         uint64_t *pool);
 
+/* Puts a request to wait: the same arguments as cbqri_bandwidth_request (an AT at
+ * or above NA is stored as 0), and nothing is granted by the call itself. One
+ * request can wait under each RCID, and is served at every window end (below)
+ * until it has all its bytes, or a reset comes. So a driver that was granted less
+ * than it asked for puts the rest to wait and asks for the need, instead of trying
+ * again. Other requests, of the same RCID too, go on beside it. Refusals: 1 to 3,
+ * 7, 10, 11.
+ *
+ * How long it takes: a request for n bytes is done within n / (R * Q) window
+ * ends, rounded up, as long as its holder has at least R blocks in force at each,
+ * R at least 1; what others ask or wait for makes it no longer. */
+uint64_t cbqri_bandwidth_wait(uint8_t *record, size_t record_len,
+                              uint8_t *active, size_t active_len,
+                              uint8_t *configured, size_t configured_len,
+                              uint8_t *used, size_t used_len,
+                              uint8_t *counters, size_t counters_len,
+                              uint8_t *events, size_t events_len,
+                              uint8_t *waiters, size_t waiters_len,
+                              uint64_t rcid, uint64_t mcid, uint64_t at, uint64_t kind,
+                              uint32_t bytes);
+
+/* The bytes that the request under this RCID still waits for go to *need, 0 where
+ * none waits or it is done. Refusals: 1 to 3, 7 (the RCID alone). */
+uint64_t cbqri_bandwidth_need(const uint8_t *record, size_t record_len,
+                              const uint8_t *active, size_t active_len,
+                              const uint8_t *configured, size_t configured_len,
+                              const uint8_t *used, size_t used_len,
+                              const uint8_t *counters, size_t counters_len,
+                              const uint8_t *events, size_t events_len,
+                              const uint8_t *waiters, size_t waiters_len,
+                              uint64_t rcid, uint64_t *need);
+
 /* Ends the window: configured settings come into force, and reservations and
- * pool are whole again. Refusals: 1 to 3. */
+ * pool are whole again. Then the requests that wait are served, by the settings
+ * now in force, each by its pair's holder:
+ * - first each has from the holder's reservation as much as it needs, at most
+ *   Rbwb * Q bytes;
+ * - then each that still needs bytes, its holder's Mweight not 0, has from the
+ *   pool the smaller of what it needs and its share, which is the whole pool
+ *   times that Mweight, divided by the Mweights of all such requests together and
+ *   rounded down.
+ * A request whose pair is neither holder nor sharer has nothing, and waits on.
+ * What is served is used up in the window that begins, and is counted as a
+ * granted request's bytes are. Refusals: 1 to 3. */
 uint64_t cbqri_bandwidth_end_window(uint8_t *record, size_t record_len,
                                     uint8_t *active, size_t active_len,
                                     uint8_t *configured, size_t configured_len,
                                     uint8_t *used, size_t used_len,
                                     uint8_t *counters, size_t counters_len,
-                                    uint8_t *events, size_t events_len);
+                                    uint8_t *events, size_t events_len,
+                                    uint8_t *waiters, size_t waiters_len);
 
 /* ---- The same on a view ---- */
 
 /* Record and tables of a bandwidth controller. */
 struct cbqri_bw {
-    uint8_t *record, *active, *configured, *used, *counters, *events;
-    size_t record_len, active_len, configured_len, used_len, counters_len, events_len;
+    uint8_t *record, *active, *configured, *used, *counters, *events, *waiters;
+    size_t record_len, active_len, configured_len, used_len, counters_len, events_len, waiters_len;
 };
 
 struct cbqri_bw_setup {
@@ -430,7 +495,7 @@ struct cbqri_bw_setup {
 /* Bytes of record and tables together. */
 #define CBQRI_BW_LEN(nr, na, nm)                                                          \
     (CBQRI_BANDWIDTH_RECORD_LEN + 3 * CBQRI_SETTINGS_LEN(nr, na) + CBQRI_COUNTERS_LEN(nm) + \
-     CBQRI_EVENTS_LEN(nm))
+     CBQRI_EVENTS_LEN(nm) + CBQRI_WAITERS_LEN(nr))
 
 /* A view of CBQRI_BW_LEN(nr, na, nm) bytes: the record and then the tables, in
  * the order of the arguments above. */
@@ -441,12 +506,14 @@ static inline struct cbqri_bw cbqri_bw_view(uint8_t *bytes, uint64_t nr, uint64_
     c.active_len = c.configured_len = c.used_len = CBQRI_SETTINGS_LEN(nr, na);
     c.counters_len = CBQRI_COUNTERS_LEN(nm);
     c.events_len = CBQRI_EVENTS_LEN(nm);
+    c.waiters_len = CBQRI_WAITERS_LEN(nr);
     c.record = bytes;
     c.active = c.record + c.record_len;
     c.configured = c.active + c.active_len;
     c.used = c.configured + c.configured_len;
     c.counters = c.used + c.used_len;
     c.events = c.counters + c.counters_len;
+    c.waiters = c.events + c.events_len;
     return c;
 }
 
@@ -454,7 +521,7 @@ static inline struct cbqri_bw cbqri_bw_view(uint8_t *bytes, uint64_t nr, uint64_
 #define CBQRI_BW_BUFFERS(c)                                                               \
     (c)->record, (c)->record_len, (c)->active, (c)->active_len, (c)->configured,          \
         (c)->configured_len, (c)->used, (c)->used_len, (c)->counters, (c)->counters_len,  \
-        (c)->events, (c)->events_len
+        (c)->events, (c)->events_len, (c)->waiters, (c)->waiters_len
 
 static inline uint64_t cbqri_bw_reset(const struct cbqri_bw *c, const struct cbqri_bw_setup *s)
 {
@@ -489,6 +556,17 @@ static inline uint64_t cbqri_bw_device_request(const struct cbqri_bw *c, uint64_
 {
     return cbqri_bandwidth_device_request(CBQRI_BW_BUFFERS(c), mode, word, at, kind, bytes,
                                           reserved, pool);
+}
+
+static inline uint64_t cbqri_bw_wait(const struct cbqri_bw *c, uint64_t rcid, uint64_t mcid,
+                                     uint64_t at, uint64_t kind, uint32_t bytes)
+{
+    return cbqri_bandwidth_wait(CBQRI_BW_BUFFERS(c), rcid, mcid, at, kind, bytes);
+}
+
+static inline uint64_t cbqri_bw_need(const struct cbqri_bw *c, uint64_t rcid, uint64_t *need)
+{
+    return cbqri_bandwidth_need(CBQRI_BW_BUFFERS(c), rcid, need);
 }
 
 static inline uint64_t cbqri_bw_end_window(const struct cbqri_bw *c)

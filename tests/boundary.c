@@ -1,5 +1,5 @@
 /*
- * Random calls of all eleven functions, accepted, refused, on damaged buffers and
+ * Random calls of all thirteen functions, accepted, refused, on damaged buffers and
  * with wrong lengths, from a fixed seed: each on buffers of exactly the lengths
  * said, alone on the heap, so that valgrind sees any byte beyond them. A refused
  * call must leave record and tables as they were and hand back 0 in each number.

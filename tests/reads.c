@@ -1,7 +1,8 @@
 /*
  * Reads of the same buffers at the same time: the buffers lie on pages that
  * nobody may write, so that a read which wrote one byte would end the program,
- * and several threads read every register and must all get the same.
+ * and several threads read every register and some needs and must all get the
+ * same.
  */
 #define _DEFAULT_SOURCE
 #include <cbqri.h>
@@ -13,11 +14,12 @@
 
 enum { NR = 64, NA = 8, NM = 64, THREADS = 4, ROUNDS = 500 };
 enum { PLACES = CBQRI_SPAN / 4 + 1, SIZES = 3 }; /* the last place and the last size are refused */
+enum { NUMBERS = 6, NEED = 4444 };
 
 static const uint64_t sizes[SIZES] = {4, 8, 2};
 static struct cbqri_bw bw;
 static struct cbqri_cc cc;
-static uint64_t wanted[PLACES][SIZES][4];
+static uint64_t wanted[PLACES][SIZES][NUMBERS];
 
 static void must(int holds, const char *what)
 {
@@ -27,20 +29,23 @@ static void must(int holds, const char *what)
     exit(1);
 }
 
-static void read_both(int place, int size, uint64_t got[4])
+/* Of both controllers a register, and the need of an RCID, of which the last is refused. */
+static void read_all(int place, int size, uint64_t got[NUMBERS])
 {
+    uint64_t rcid = place == PLACES - 1 ? NR : (uint64_t)place;
     got[0] = cbqri_bw_read(&bw, sizes[size], 4 * (uint64_t)place, &got[1]);
     got[2] = cbqri_cc_read(&cc, sizes[size], 4 * (uint64_t)place, &got[3]);
+    got[4] = cbqri_bw_need(&bw, rcid, &got[5]);
 }
 
 static void *reader(void *unused)
 {
-    uint64_t got[4];
+    uint64_t got[NUMBERS];
     for (int i = 0; i < ROUNDS; i++)
         for (int place = 0; place < PLACES; place++)
             for (int size = 0; size < SIZES; size++) {
-                read_both(place, size, got);
-                for (int k = 0; k < 4; k++)
+                read_all(place, size, got);
+                for (int k = 0; k < NUMBERS; k++)
                     must(got[k] == wanted[place][size][k], "a read got something else");
             }
     return unused;
@@ -64,6 +69,7 @@ static void set_up(void)
     refused = cbqri_bw_reset(&bw, &bw_setup) | cbqri_cc_reset(&cc, &cc_setup);
     refused |= cbqri_bw_write(&bw, 8, CBQRI_MON_CTL, cbqri_mon_ctl(CBQRI_CONFIG_EVENT, 0, 3, 1, 0));
     refused |= cbqri_bw_request(&bw, 0, 3, 0, 0, 1234, &reserved, &pool);
+    refused |= cbqri_bw_wait(&bw, 3, 3, 0, 0, NEED);
     refused |= cbqri_bw_write(&bw, 8, CBQRI_MON_CTL, cbqri_mon_ctl(CBQRI_READ_COUNTER, 0, 3, 0, 0));
     refused |= cbqri_bw_write(&bw, 8, CBQRI_ALLOC_CTL, cbqri_alloc_ctl(CBQRI_READ_LIMIT, 0, 0));
     refused |= cbqri_cc_write(&cc, 8, CBQRI_ALLOC_CTL, cbqri_alloc_ctl(CBQRI_READ_LIMIT, 1, 0));
@@ -78,8 +84,10 @@ int main(void)
     set_up();
     for (int place = 0; place < PLACES; place++)
         for (int size = 0; size < SIZES; size++)
-            read_both(place, size, wanted[place][size]);
+            read_all(place, size, wanted[place][size]);
     must(wanted[CBQRI_MON_CTR_VAL / 4][1][1] == 1234, "the counter");
+    must(wanted[3][0][5] == NEED && wanted[2][0][5] == 0, "a need");
+    must(wanted[PLACES - 1][0][4] == CBQRI_REFUSED_IDENTIFIER, "the need of an unknown RCID");
     for (int i = 0; i < THREADS; i++)
         must(pthread_create(&threads[i], NULL, reader, NULL) == 0, "pthread_create");
     for (int i = 0; i < THREADS; i++)

@@ -1,8 +1,13 @@
+mod waiters;
+
 use crate::common::{buffers, controller};
 use crate::parts::{number, pair, word, ByMcid, ByPair, Flags, Hex};
 use crate::{ffi, registers, table_len, Counter, Refusal, Setting};
 
+pub use waiters::Waiter;
+
 use std::fmt;
+use waiters::Waiters;
 
 /// Set-up of a bandwidth controller.
 #[derive(Clone, Copy, Debug, PartialEq, Eq)]
@@ -24,7 +29,7 @@ pub struct BandwidthSetup {
 }
 
 /// Whether a request reads or writes.
-#[derive(Clone, Copy, Debug, PartialEq, Eq)]
+#[derive(Clone, Copy, Debug, PartialEq, Eq, Hash)]
 pub enum Kind {
     /// Kind 0 of the C interface.
     Read,
@@ -96,6 +101,8 @@ buffers! {
         counters,
         /// Counter settings, 2 bytes for each MCID.
         events,
+        /// Requests that wait, 8 bytes for each RCID.
+        waiters,
     }
 }
 
@@ -109,12 +116,13 @@ impl BandwidthBuffers {
             used: vec![0; pairs],
             counters: vec![0; table_len(8, setup.nm, 1)],
             events: vec![0; table_len(2, setup.nm, 1)],
+            waiters: vec![0; table_len(8, setup.nr, 1)],
         }
     }
 }
 
 /// A bandwidth controller. `Debug` shows set-up, registers, the settings that
-/// are set and the counters that were used.
+/// are set, the counters that were used and the requests that wait.
 ///
 /// ```
 /// use cbqri::{Bandwidth, BandwidthSetup};
@@ -189,6 +197,7 @@ impl fmt::Debug for Bandwidth {
             .field("configured", &ByPair { nr, na, get: &|rcid, at| self.configured(rcid, at) })
             .field("used", &ByPair { nr, na, get: &|rcid, at| self.used_of_holder(rcid, at) })
             .field("counters", &ByMcid { nm, get: &counter })
+            .field("waiters", &Waiters(self))
             .finish()
     }
 }
@@ -344,7 +353,10 @@ impl Bandwidth {
     }
 
     /// Ends the window: configured settings come into force, and reservations
-    /// and pool are whole again.
+    /// and pool are whole again. Then the requests that wait are served: first each
+    /// from its holder's reservation; then each that still needs bytes, its holder's
+    /// Mweight not 0, from the pool, at most the whole pool times that Mweight, divided
+    /// by the Mweights of all such requests together and rounded down.
     ///
     /// # Errors
     ///

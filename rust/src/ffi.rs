@@ -40,7 +40,7 @@ macro_rules! function {
 
 macro_rules! bandwidth {
     ($($rest:tt)*) => {
-        function!(BandwidthBuffers [record active configured used counters events] $($rest)*);
+        function!(BandwidthBuffers [record active configured used counters events waiters] $($rest)*);
     };
 }
 
@@ -55,6 +55,8 @@ bandwidth!(mut cbqri_bandwidth_request(; rcid: u64, mcid: u64, at: u64, kind: u6
     reserved: &mut u64, pool: &mut u64));
 bandwidth!(mut cbqri_bandwidth_device_request(; mode: u64, word: u64, at: u64, kind: u64,
     bytes: u32, reserved: &mut u64, pool: &mut u64));
+bandwidth!(mut cbqri_bandwidth_wait(; rcid: u64, mcid: u64, at: u64, kind: u64, bytes: u32));
+bandwidth!(const cbqri_bandwidth_need(; rcid: u64, need: &mut u64));
 bandwidth!(mut cbqri_bandwidth_end_window(;));
 
 capacity!(mut cbqri_capacity_reset(ncblks, nr, na, nm, w;));

@@ -1,6 +1,6 @@
 //! A pair of RISC-V CBQRI quality-of-service controllers, as an emulator uses
 //! them: the registers that a driver sees, the requests and cache events of
-//! the emulated system, and the end of a bandwidth window.
+//! the emulated system, requests that wait, and the end of a bandwidth window.
 //!
 //! This crate wraps libcbqri.a. It is looked for in the folder that
 //! `CBQRI_LIB_DIR` names when building, and where pkg-config finds it.
@@ -59,7 +59,7 @@ mod ffi;
 mod parts;
 pub mod registers;
 
-pub use bandwidth::{Bandwidth, BandwidthBuffers, BandwidthSetup, Grant, Kind};
+pub use bandwidth::{Bandwidth, BandwidthBuffers, BandwidthSetup, Grant, Kind, Waiter};
 pub use capacity::{Capacity, CapacityBuffers, CapacitySetup};
 pub use parts::{Counter, Setting};
 
@@ -109,6 +109,10 @@ pub enum Refusal {
     Block = 8,
     /// A device context with an RCID at or above NR, or an MCID at or above NM.
     DeviceContext = 9,
+    /// A request already waits under that RCID.
+    AlreadyWaits = 10,
+    /// A request for 0 bytes is put to wait.
+    NoBytes = 11,
 }
 
 impl Refusal {
@@ -125,7 +129,9 @@ impl Refusal {
             7 => Refusal::Identifier,
             8 => Refusal::Block,
             9 => Refusal::DeviceContext,
-            _ => unreachable!("libcbqri.a answers 0 to 9, not {answer}"),
+            10 => Refusal::AlreadyWaits,
+            11 => Refusal::NoBytes,
+            _ => unreachable!("libcbqri.a answers 0 to 11, not {answer}"),
         })
     }
 }
@@ -144,6 +150,8 @@ impl fmt::Display for Refusal {
             Refusal::DeviceContext => {
                 "a device context with an RCID at or above NR, or an MCID at or above NM"
             }
+            Refusal::AlreadyWaits => "a request already waits under that RCID",
+            Refusal::NoBytes => "a request for 0 bytes is put to wait",
         })
     }
 }

@@ -8,23 +8,10 @@ use cbqri::registers as reg;
 use cbqri::{Bandwidth, BandwidthSetup, Capacity, CapacitySetup, Counter, Grant, Kind};
 use cbqri::{Refusal, Setting, Status};
 
-/// Random numbers with a fixed course (splitmix64).
-struct Random(u64);
+mod random;
+use random::Random;
 
 impl Random {
-    fn below(&mut self, bound: u64) -> u64 {
-        self.0 = self.0.wrapping_add(0x9e37_79b9_7f4a_7c15);
-        let mut z = self.0;
-        z = (z ^ z >> 30).wrapping_mul(0xbf58_476d_1ce4_e5b9);
-        z = (z ^ z >> 27).wrapping_mul(0x94d0_49bb_1331_11eb);
-        (z ^ z >> 31) % bound
-    }
-
-    /// Mostly below the bound, at times at or above it.
-    fn about(&mut self, bound: u64) -> u64 {
-        self.below(bound + 1 + bound / 8)
-    }
-
     /// Size, offset and value of a write, at times a refused one.
     fn write(&mut self, nr: u64, na: u64, nm: u64, operand: u64) -> (u64, u64, u64) {
         let (op, at) = (1 + self.about(2), self.about(na));
@@ -59,9 +46,11 @@ fn setting_word(setting: Option<Setting>) -> u64 {
 
 fn bandwidth_call(bw: &mut Bandwidth, random: &mut Random) -> Result<(), Refusal> {
     let BandwidthSetup { mrbwb, nr, na, nm, .. } = bw.setup();
-    match random.below(12) {
+    match random.below(14) {
         0 => bw.end_window(),
-        1..=3 => {
+        1 => bw.wait(random.about(nr), random.about(nm), 0, Kind::Read, random.below(9) as u32),
+        2 => bw.need(random.about(nr)).map(|_| ()),
+        3..=5 => {
             let kind = if random.below(2) == 0 { Kind::Read } else { Kind::Write };
             let (rcid, mcid, at) = (random.about(nr), random.about(nm), random.about(na));
             bw.request(rcid, mcid, at, kind, random.below(5000) as u32).map(|_| ())

@@ -10,7 +10,9 @@ mod grants;
 mod paper;
 mod published;
 mod refusals;
+mod served;
 mod sweep;
+mod waiters;
 mod weights;
 
 /// Who answers the calls of a case.
@@ -55,6 +57,8 @@ fn all(side: Side) -> Report {
     grants::run(&mut report);
     weights::run(&mut report);
     devices::run(&mut report);
+    waiters::run(&mut report);
+    served::run(&mut report);
     capacity::run(&mut report);
     forms::run(&mut report);
     refusals::run(&mut report);

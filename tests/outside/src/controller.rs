@@ -45,8 +45,8 @@ pub trait Controller {
     ) -> Labels;
     /// What a state showed, beside its fault, that was refused by 3.
     fn fault(state: &Self::State) -> Labels;
-    /// What a call showed that was refused for its own arguments.
-    fn refused(setup: &Self::Setup, call: &Self::Call) -> Labels;
+    /// What a call showed that was refused by this number for its own arguments.
+    fn refused(before: &Self::State, call: &Self::Call, number: u64) -> Labels;
     /// What a whole run must have shown.
     fn required() -> Labels;
 }
@@ -107,8 +107,8 @@ macro_rules! controller {
                 coverage::$module::fault(state)
             }
 
-            fn refused(setup: &$module::Setup, call: &$module::Call) -> Labels {
-                coverage::$module::refused(setup, call)
+            fn refused(before: &$module::State, call: &$module::Call, number: u64) -> Labels {
+                coverage::$module::refused(before, call, number)
             }
 
             fn required() -> Labels {
@@ -121,6 +121,14 @@ macro_rules! controller {
 controller!(
     Bandwidth,
     bandwidth,
-    [("record", 8), ("active", 4), ("configured", 4), ("used", 4), ("counters", 8), ("events", 2)]
+    [
+        ("record", 8),
+        ("active", 4),
+        ("configured", 4),
+        ("used", 4),
+        ("counters", 8),
+        ("events", 2),
+        ("waiters", 8)
+    ]
 );
 controller!(Capacity, capacity, [("record", 8), ("masks", 8), ("counters", 8), ("events", 2)]);

@@ -70,7 +70,7 @@ pub fn labels<C: Controller>(
             labels.push(format!("refused 3 for {}", before.fault().unwrap_or("nothing")));
             labels.extend(C::fault(before));
         }
-        _ => labels.extend(C::refused(before.setup(), call)),
+        number => labels.extend(C::refused(before, call, number)),
     }
     labels
 }

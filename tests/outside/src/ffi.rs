@@ -26,7 +26,7 @@ macro_rules! c_function {
 
 macro_rules! bandwidth_function {
     ($($rest:tt)*) => {
-        c_function!([record, active, configured, used, counters, events] $($rest)*);
+        c_function!([record, active, configured, used, counters, events, waiters] $($rest)*);
     };
 }
 
@@ -43,6 +43,8 @@ bandwidth_function!(cbqri_bandwidth_request(; rcid: u64, mcid: u64, at: u64, kin
     reserved: &mut u64, pool: &mut u64));
 bandwidth_function!(cbqri_bandwidth_device_request(; mode: u64, word: u64, at: u64, kind: u64,
     bytes: u32, reserved: &mut u64, pool: &mut u64));
+bandwidth_function!(cbqri_bandwidth_wait(; rcid: u64, mcid: u64, at: u64, kind: u64, bytes: u32));
+bandwidth_function!(cbqri_bandwidth_need(; rcid: u64, need: &mut u64));
 bandwidth_function!(cbqri_bandwidth_end_window(;));
 
 capacity_function!(cbqri_capacity_reset(ncblks, nr, na, nm, w;));
@@ -90,6 +92,8 @@ pub fn bandwidth(memory: &mut Memory, call: &bandwidth::Call) -> Answer {
             let (at, kind, bytes) = (d.at, d.kind, d.bytes);
             cbqri_bandwidth_device_request(memory, d.mode, d.word, at, kind, bytes, reserved, pool)
         }),
+        Wait(r) => plain(cbqri_bandwidth_wait(memory, r.rcid, r.mcid, r.at, r.kind, r.bytes)),
+        Need { rcid } => with_value(|need| cbqri_bandwidth_need(memory, rcid, need)),
         EndWindow => plain(cbqri_bandwidth_end_window(memory)),
     }
 }

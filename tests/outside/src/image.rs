@@ -52,6 +52,7 @@ impl Image for bandwidth::State {
             Word::bytes(&self.used),
             Word::bytes(&self.counters),
             Word::bytes(&self.events),
+            Word::bytes(&self.waiters),
         ]
     }
 
@@ -73,6 +74,7 @@ impl Image for bandwidth::State {
             used: Word::words(&contents[3]),
             counters: Word::words(&contents[4]),
             events: Word::words(&contents[5]),
+            waiters: Word::words(&contents[6]),
         }
     }
 }

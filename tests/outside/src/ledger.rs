@@ -1,4 +1,4 @@
-//! Ledgers (rules L1 to L6) that follow a list of calls by arguments and answers alone,
+//! Ledgers (rules L1 to L6 and L8) that follow a list of calls by arguments and answers alone,
 //! and the claims that each list must meet. They never look into a record or table to learn anything;
 //! tables are only compared with what the ledger worked out.
 
@@ -48,6 +48,11 @@ pub trait Ledger: Sized {
         Labels::new()
     }
 
+    /// What is claimed of a call that is refused by this number.
+    fn refused(&self, _call: &Self::Call, _number: u64) -> Result<(), String> {
+        Ok(())
+    }
+
     /// Follows an accepted call and its answer.
     fn accepted(&mut self, call: &Self::Call, answer: Answer) -> Result<(), String> {
         match call.common() {
@@ -90,7 +95,7 @@ pub trait Ledger: Sized {
     fn observe(&mut self, call: &Self::Call, answer: Answer) -> Result<(), String> {
         match answer.refusal {
             0 => self.accepted(call, answer),
-            _ => Ok(()),
+            number => self.refused(call, number),
         }
     }
 }

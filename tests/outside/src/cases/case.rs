@@ -100,14 +100,22 @@ impl<'a, C: Controller> Case<'a, C> {
 
     /// A write that changes these words of the record and nothing else, each to the value given.
     pub fn write_changes(&mut self, name: &str, write: [u64; 3], changes: &[(usize, u64)]) {
-        let mut expected = self.memory.clone();
-        for &(word, value) in changes {
-            expected.region_mut(0)[8 * word..8 * word + 8].copy_from_slice(&value.to_le_bytes());
-        }
         let [size, offset, value] = write;
-        self.answers(name, &C::Call::write(size, offset, value), 0);
-        let same = self.memory.contents() == expected.contents();
-        self.report.expect(&format!("{name}, all else unchanged"), same as u64, 1);
+        let changes: Vec<_> = changes.iter().map(|&(word, value)| (0, word, value)).collect();
+        self.changes(name, &C::Call::write(size, offset, value), &changes);
+    }
+
+    /// An accepted call that changes these words, by slice and index, and nothing else.
+    pub fn changes(&mut self, name: &str, call: &C::Call, changes: &[(usize, usize, u64)]) {
+        let mut expected = self.memory.contents();
+        for &(region, word, value) in changes {
+            let width = C::REGIONS[region].1;
+            let part = &mut expected[region][width * word..width * (word + 1)];
+            part.copy_from_slice(&value.to_le_bytes()[..width]);
+        }
+        self.refusal(name, call, 0);
+        let same = self.memory.contents() == expected;
+        self.report.expect(&format!("{name}, these words and no others"), same as u64, 1);
     }
 
     /// Writes alloc_ctl and expects its STATUS.
@@ -199,15 +207,23 @@ impl<'a> Case<'a, Bandwidth> {
 
     /// RCID, MCID, AT, kind and bytes, as in the paper's line `q`; reserved bytes and pool bytes.
     pub fn request(&mut self, name: &str, arguments: [u64; 5], grant: (u64, u64)) {
-        let [rcid, mcid, at, kind, bytes] = arguments;
-        let bytes = bytes as u32;
-        let request = bandwidth::Request { rcid, mcid, at, kind, bytes };
-        self.expect(name, &bandwidth::Call::Request(request), Answer::granted(grant.0, grant.1));
+        let call = bandwidth::Call::Request(request_of(arguments));
+        self.expect(name, &call, Answer::granted(grant.0, grant.1));
     }
 
     /// Mode, word, AT, kind and bytes of a device's request; reserved bytes and pool bytes.
     pub fn device_request(&mut self, name: &str, arguments: [u64; 5], grant: (u64, u64)) {
         self.expect(name, &device_request(arguments), Answer::granted(grant.0, grant.1));
+    }
+
+    /// RCID, MCID, AT, kind and bytes of a request that is put to wait.
+    pub fn wait(&mut self, name: &str, arguments: [u64; 5]) {
+        self.answers(name, &wait(arguments), 0);
+    }
+
+    /// The bytes that the request of an RCID waits for.
+    pub fn need(&mut self, name: &str, rcid: u64, need: u64) {
+        self.answers(name, &bandwidth::Call::Need { rcid }, need);
     }
 
     pub fn end_window(&mut self) {
@@ -218,6 +234,14 @@ impl<'a> Case<'a, Bandwidth> {
 pub fn bandwidth_setup(numbers: [u64; 7]) -> bandwidth::Setup {
     let [nbwblks, mrbwb, nr, na, nm, q, w] = numbers;
     bandwidth::Setup { nbwblks, mrbwb, nr, na, nm, q, w }
+}
+
+fn request_of([rcid, mcid, at, kind, bytes]: [u64; 5]) -> bandwidth::Request {
+    bandwidth::Request { rcid, mcid, at, kind, bytes: bytes as u32 }
+}
+
+pub fn wait(arguments: [u64; 5]) -> bandwidth::Call {
+    bandwidth::Call::Wait(request_of(arguments))
 }
 
 pub fn device_request([mode, word, at, kind, bytes]: [u64; 5]) -> bandwidth::Call {

@@ -3,6 +3,7 @@
 use super::case::bandwidth_record::*;
 use super::case::{device_request, BandwidthCase};
 use super::forms::good_state;
+use super::refusals::{lengths_first, one_to_three_first};
 use super::Report;
 use crate::model::bandwidth::slices::*;
 
@@ -177,29 +178,10 @@ fn order(report: &mut Report) {
         let unknown = device_request([mode, u64::MAX, 0, 0, 1]);
         c.refuses("7 or 9", &unknown, number);
         for call in [unknown, device_request([mode, 0, 0, 0, 1])] {
-            c.aside(|c| {
-                c.store(ACTIVE, 7, 0x0010_0000);
-                c.refuses("3 before 7 and 9", &call, 3);
-                c.lend_length(EVENTS, 9);
-                c.refuses("2 before 3", &call, 2);
-                c.store(RECORD, W, 63);
-                c.refuses("1 before 2", &call, 1);
-                c.store(RECORD, W, 24);
-                c.lend_length(RECORD, 95);
-                c.refuses("1 for the record's length", &call, 1);
-            });
+            one_to_three_first(&mut c, &call);
         }
     }
-    for (region, right) in c.lengths().into_iter().enumerate() {
-        let number = if region == RECORD { 1 } else { 2 };
-        for length in [0, right - 1, right + 1, right + 8] {
-            c.aside(|c| {
-                c.lend_length(region, length);
-                c.refuses("a length", &device_request([BARE, 0, 0, 0, 1]), number);
-                c.refuses("a length", &device_request([2, 0, 0, 0, 1]), number);
-            });
-        }
-    }
+    lengths_first(&mut c, &[BARE, 2].map(|mode| device_request([mode, 0, 0, 0, 1])));
 }
 
 /// P9's situation: RCID 1 has 1,920 bytes for both access types, and the pool 1,280.

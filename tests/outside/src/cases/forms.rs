@@ -39,7 +39,7 @@ const RECORD_FORMS: [Form; 13] = [
     ("the pool gave more", RECORD, 11, 1_281, 3),
 ];
 
-const TABLE_FORMS: [Form; 14] = [
+const TABLE_FORMS: [Form; 25] = [
     ("all of a reservation used", USED, 2, 1_920, 0),
     ("one byte more", USED, 2, 1_921, 3),
     ("used at a sharer", USED, 3, 1, 3),
@@ -54,6 +54,17 @@ const TABLE_FORMS: [Form; 14] = [
     ("ATV without an event", EVENTS, 3, 0x0800, 3),
     ("AT 2 of 2", EVENTS, 3, 0x0A01, 3),
     ("bit 12", EVENTS, 3, 0x1001, 3),
+    ("a waiter", WAITERS, 0, 1, 0),
+    ("every field of a waiter", WAITERS, 3, 0x0903_FFFF_FFFF, 0),
+    ("a waiter's MCID 4 of 4", WAITERS, 3, 0x0004_0000_0001, 3),
+    ("a waiter's MCID 128", WAITERS, 0, 0x0080_0000_0001, 3),
+    ("a waiter's AT 2 of 2", WAITERS, 3, 0x0200_0000_0001, 3),
+    ("a waiter's AT 4", WAITERS, 1, 0x0400_0000_0001, 3),
+    ("a write without a need", WAITERS, 1, 0x0800_0000_0000, 3),
+    ("an MCID without a need", WAITERS, 2, 0x0003_0000_0000, 3),
+    ("an AT without a need", WAITERS, 2, 0x0100_0000_0000, 3),
+    ("bit 44 of a waiter", WAITERS, 2, 0x1000_0000_0001, 3),
+    ("bit 63 of a waiter", WAITERS, 3, 1 << 63 | 1, 3),
 ];
 
 /// Word, and whether a settings table may have it at RCID 2 AT 0, and at RCID 2 AT 1.
@@ -106,13 +117,15 @@ fn bandwidth_forms(report: &mut Report) {
 
 fn bandwidth_one_type(report: &mut Report) {
     let mut c = BandwidthCase::after_reset(report, ONE_TYPE);
-    let forms: [Form; 6] = [
+    let forms: [Form; 8] = [
         ("AT of alloc_ctl is held as 0", RECORD, 9, 0x20, 3),
         ("AT of mon_ctl is held as 0", RECORD, 7, 0x80, 3),
         ("ATV of mon_ctl is held as 0", RECORD, 7, 1 << 28, 3),
         ("useShared of bw_alloc is not", RECORD, 10, 0x9000_0000, 0),
         ("no operation stores ATV 1", EVENTS, 0, 0x0801, 3),
         ("event 1", EVENTS, 0, 0x0001, 0),
+        ("a waiter's AT 0", WAITERS, 0, 0x0800_0000_0001, 0),
+        ("a waiter's AT 1 of 1", WAITERS, 0, 0x0100_0000_0001, 3),
     ];
     let tried = try_bandwidth(ONE_TYPE);
     forms.into_iter().for_each(|form| tried.form(&mut c, form));

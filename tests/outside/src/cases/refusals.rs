@@ -1,7 +1,9 @@
 //! Refusals 1, 2 and 4 to 7, and the order in which they are judged.
 
+use super::case::bandwidth_record::W;
 use super::case::{bandwidth_setup, capacity_setup, BandwidthCase, CapacityCase};
 use super::Report;
+use crate::model::bandwidth::slices::*;
 use crate::model::{bandwidth, capacity};
 
 const SETUP: [u64; 7] = [100, 80, 4, 2, 4, 64, 24];
@@ -87,8 +89,39 @@ fn bandwidth_lengths(report: &mut Report) {
     // a reset's lengths go by the set-up that it is given
     c.refuses("one RCID more", &reset_of([100, 80, 5, 2, 4, 64, 24]), 2);
     c.refuses("one MCID less", &reset_of([100, 80, 4, 2, 3, 64, 24]), 2);
-    c.answers("the same product of NR and NA", &reset_of([100, 80, 2, 4, 4, 64, 24]), 0);
+    let same_product = reset_of([100, 80, 2, 4, 4, 64, 24]);
+    c.refuses("the same product of NR and NA, a word for each of 4 RCIDs", &same_product, 2);
+    c.lend_length(WAITERS, 16);
+    c.answers("a word for each of 2", &same_product, 0);
     c.word("RCID 0 AT 3 shares", 1, 3, 0x8000_0000);
+}
+
+/// Faults are added one before another in the order of checking, on a controller of `SETUP`.
+pub fn one_to_three_first(c: &mut BandwidthCase, call: &bandwidth::Call) {
+    c.aside(|c| {
+        c.store(ACTIVE, 7, 0x0010_0000);
+        c.refuses("3 before the call's own", call, 3);
+        c.lend_length(EVENTS, 9);
+        c.refuses("2 before 3", call, 2);
+        c.store(RECORD, W, 63);
+        c.refuses("1 before 2", call, 1);
+        c.store(RECORD, W, 24);
+        c.lend_length(RECORD, 95);
+        c.refuses("1 for the record's length", call, 1);
+    });
+}
+
+/// Each slice with another length, for calls that would be accepted.
+pub fn lengths_first(c: &mut BandwidthCase, calls: &[bandwidth::Call]) {
+    for (region, right) in c.lengths().into_iter().enumerate() {
+        let number = if region == RECORD { 1 } else { 2 };
+        for length in [0, right - 1, right + 1, right + 8] {
+            c.aside(|c| {
+                c.lend_length(region, length);
+                calls.iter().for_each(|call| c.refuses("a length", call, number));
+            });
+        }
+    }
 }
 
 fn capacity_lengths(report: &mut Report) {

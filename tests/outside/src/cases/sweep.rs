@@ -3,6 +3,7 @@
 use super::case::{BandwidthCase, CapacityCase, Case};
 use super::Report;
 use crate::controller::Controller;
+use crate::model::bandwidth::slices::*;
 use crate::model::CommonCall;
 
 /// NR and NA.
@@ -13,6 +14,7 @@ pub fn run(report: &mut Report) {
     for (nr, na) in SIZES {
         bandwidth_settings(report, nr, na);
         bandwidth_sharers(report, nr, na);
+        bandwidth_waiters(report, nr, na);
         capacity_masks(report, nr, na);
     }
     for nm in [1, 7, 33, 256] {
@@ -37,13 +39,6 @@ pub fn probe<C: Controller>(
         c.store(region, index, value);
     }
 }
-
-// slices of the bandwidth controller
-const ACTIVE: usize = 1;
-const CONFIGURED: usize = 2;
-const USED: usize = 3;
-const COUNTERS: usize = 4;
-const EVENTS: usize = 5;
 
 /// RCID 0 has 599 of MRBWB 600 blocks of 4 bytes; all pairs of other RCIDs are unset.
 fn one_block_left(report: &mut Report, nr: u64, na: u64) -> BandwidthCase<'_> {
@@ -97,6 +92,31 @@ fn bandwidth_sharers(report: &mut Report, nr: u64, na: u64) {
             }
         }
         probe(&mut c, "used at a sharer", &[(ACTIVE, first, 1), (USED, last, 1)], 3);
+    }
+}
+
+/// 100 MCIDs. Every word alone, and the same beside a waiter under RCID 0.
+fn bandwidth_waiters(report: &mut Report, nr: u64, na: u64) {
+    let mut c = BandwidthCase::after_reset(report, [100, 80, nr, na, 100, 64, 24]);
+    for first in [0, 5] {
+        c.store(WAITERS, 0, first);
+        for rcid in 0..nr as usize {
+            let highest = 0x0863_0000_0000 | (na - 1) << 40;
+            let mut word = |name, value, number| {
+                probe(&mut c, name, &[(WAITERS, rcid, value)], number);
+            };
+            word("one byte", 1, 0);
+            word("the highest of each field", highest | 0xFFFF_FFFF, 0);
+            word("no need", highest, 3);
+            word("a write without a need", 0x0800_0000_0000, 3);
+            word("MCID 100", 0x0064_0000_0001, 3);
+            word("MCID 255", 0x00FF_0000_0001, 3);
+            if na < 8 {
+                word("AT NA", na << 40 | 1, 3);
+            }
+            word("bit 44", 1 << 44 | 1, 3);
+            word("bit 63", 1 << 63 | 1, 3);
+        }
     }
 }
 

@@ -2,17 +2,17 @@
 
 mod devices;
 mod grants;
+mod served;
+mod waiters;
 mod weights;
 
-pub use weights::fault;
-
 use super::{common_required, operation, unknown, Labels};
-use crate::ledger::bandwidth::required as read_back_required;
+use crate::ledger::bandwidth::required as ledger_required;
 use crate::model::access::ALLOC_CTL;
 use crate::model::bandwidth::settings::{is_sharer, RBWB, SHARED_AT, USE_SHARED};
-use crate::model::bandwidth::{Call, Request, Setup, State, OVF};
+use crate::model::bandwidth::{Call, Request, State, OVF};
 use crate::model::registers::{AT, RCID, STATUS};
-use crate::model::{Answer, Sizes};
+use crate::model::{Answer, Checked, Sizes};
 
 pub fn call_name(call: &Call) -> &'static str {
     match call {
@@ -21,6 +21,8 @@ pub fn call_name(call: &Call) -> &'static str {
         Call::Write { .. } => "write",
         Call::Request(_) => "request",
         Call::DeviceRequest(device) => devices::name(device),
+        Call::Wait(_) => "wait",
+        Call::Need { .. } => "need",
         Call::EndWindow => "end_window",
     }
 }
@@ -41,28 +43,43 @@ pub fn accepted(before: &State, call: &Call, answer: Answer, after: &State) -> L
         Call::Request(request) => {
             labels.push(grants::source(before, request, answer.grant));
             labels.extend(counter_change(before, request, answer.grant.sum(), after));
+            labels.extend(waiters::beside(before, request));
         }
         Call::DeviceRequest(device) => {
             labels.extend(devices::accepted(before, device, answer.grant, after))
         }
+        Call::Wait(request) => labels.extend(waiters::put_to_wait(before, request)),
+        Call::Need { .. } => labels.push(waiters::need(answer.value).into()),
+        Call::Reset(_) => labels.extend(waiters::reset(before)),
         Call::EndWindow => {
             labels.extend(weights::window_end(before));
+            labels.extend(served::window_end(before, after));
             if before.active != after.active {
                 labels.push("window end put other settings in force".into());
             }
         }
-        _ => {}
+        Call::Read { .. } => {}
     }
     labels
 }
 
-pub fn refused(setup: &Setup, call: &Call) -> Labels {
+/// What a state showed that was refused by 3.
+pub fn fault(state: &State) -> Labels {
+    match state.fault() {
+        Some("a waiter") => waiters::fault(state),
+        _ => weights::fault(state),
+    }
+}
+
+pub fn refused(before: &State, call: &Call, number: u64) -> Labels {
+    let setup = &before.record.setup;
     let mut labels = Labels::new();
     match call {
         Call::Request(request) => {
             labels.extend(unknown("request", setup, request.rcid, request.mcid));
         }
         Call::DeviceRequest(device) => labels.extend(devices::refused(setup, device)),
+        Call::Wait(request) => labels.extend(waiters::refused_wait(before, request, number)),
         _ => {}
     }
     labels
@@ -138,13 +155,16 @@ pub fn required() -> Labels {
         (devices::OFF_NAME, &[1, 2, 3, 7]),
         (devices::BARE_NAME, &[1, 2, 3, 7]),
         (devices::DIRECTORY_NAME, &[1, 2, 3, 9]),
+        ("wait", &[1, 2, 3, 7, 10, 11]),
         ("end_window", &[1, 2, 3]),
     ]);
     labels.extend(OTHERS.map(String::from));
     labels.extend(grants::SOURCES.map(String::from));
     labels.extend(devices::required());
     labels.extend(weights::required());
-    labels.extend(read_back_required());
+    labels.extend(waiters::required());
+    labels.extend(served::required());
+    labels.extend(ledger_required());
     labels
 }
 

@@ -1,7 +1,7 @@
 //! What a run shows of the capacity controller.
 
 use super::{common_required, operation, unknown, Labels};
-use crate::model::capacity::{Call, Setup, State, INVALID};
+use crate::model::capacity::{Call, State, INVALID};
 use crate::model::Answer;
 
 pub fn call_name(call: &Call) -> &'static str {
@@ -39,9 +39,10 @@ pub fn fault(_state: &State) -> Labels {
     Labels::new()
 }
 
-pub fn refused(setup: &Setup, call: &Call) -> Labels {
+pub fn refused(before: &State, call: &Call, _number: u64) -> Labels {
     match call {
         Call::Fill(event) | Call::Evict(event) => {
+            let setup = &before.record.setup;
             unknown(call_name(call), setup, event.rcid, event.mcid).into_iter().collect()
         }
         _ => Labels::new(),

@@ -3,7 +3,9 @@
 mod damage;
 mod devices;
 mod operand;
+mod plan;
 mod states;
+mod waiters;
 mod weights;
 
 use super::common;
@@ -37,7 +39,8 @@ pub fn scenario(random: &mut Random, state: &State, lengths: &[usize], quiet: bo
             configuration(random, operand)
         }
         23..=29 => weights::weights(random, state),
-        30..=51 => requests(random, state),
+        30..=41 => waiters::waiters(random, state),
+        42..=51 => requests(random, state),
         52..=60 => vec![Step::Call(Call::EndWindow)],
         61..=71 => monitoring(random, state),
         72..=86 => vec![Step::Call(call(random))],
@@ -55,7 +58,7 @@ pub fn scenario(random: &mut Random, state: &State, lengths: &[usize], quiet: bo
 
 /// Any call, with arguments of every kind.
 pub fn any_call(random: &mut Random, setup: &Setup) -> Call {
-    let (size, offset, value) = match random.below(13) {
+    let (size, offset, value) = match random.below(15) {
         0 | 1 => {
             let (size, offset) = common::access(random);
             return Call::Read { size, offset };
@@ -69,6 +72,8 @@ pub fn any_call(random: &mut Random, setup: &Setup) -> Call {
         6 if random.percent(40) => return Call::Reset(setups::bandwidth::outside(random)),
         6..=8 => common::any_write(random),
         9 | 10 => common::any_alloc_ctl(random, setup.nr, setup.na),
+        11 => return waiters::any_wait(random, setup),
+        12 => return Call::Need { rcid: random.index(setup.nr) },
         _ => common::any_mon_ctl(random, setup.na, setup.nm, LAST_EVENT),
     };
     Call::Write { size, offset, value }
@@ -136,7 +141,9 @@ fn any_request(random: &mut Random, setup: &Setup, bytes: u32) -> Request {
         other => other % 2,
     };
     let (rcid, at) = common::any_pair(random, setup);
-    Request { rcid, mcid: random.index(setup.nm), at, kind, bytes }
+    let both_unknown = rcid >= setup.nr && random.percent(25);
+    let mcid = if both_unknown { setup.nm } else { random.index(setup.nm) };
+    Request { rcid, mcid, at, kind, bytes }
 }
 
 /// Bytes near what the holder has left and what the pool has left.

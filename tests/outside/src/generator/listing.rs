@@ -111,8 +111,10 @@ fn line_of(random: &mut Random, call: &Call) -> Vec<u8> {
         Call::Request(Request { rcid, mcid, at, kind, bytes }) => {
             "q".to_string() + &decimals(&[rcid, mcid, at, kind, bytes as u64])
         }
-        // no line asks for a device's request: the request that it is stands in its place
+        // no line asks for a device's request, a wait or a need: a request stands in its place
         Call::DeviceRequest(device) => return line_of(random, &Call::Request(device.request())),
+        Call::Wait(request) => return line_of(random, &Call::Request(request)),
+        Call::Need { rcid } => "q".to_string() + &decimals(&[rcid, 0, 0, 0, 1]),
         Call::EndWindow => "e".to_string(),
     };
     line.into_bytes()

@@ -1,9 +1,9 @@
 //! The ledger of the bandwidth controller and the claims of demand 3.
 
+mod deadline;
 mod read_back;
+mod waiters;
 mod window;
-
-pub use read_back::required;
 
 use super::{claim, CounterSet};
 use crate::coverage::Labels;
@@ -18,6 +18,7 @@ use crate::model::bandwidth::{
 use crate::model::registers::{alloc_ctl_fields, AT, CONFIG_LIMIT, DONE, OP, RCID, READ_LIMIT};
 use crate::model::{access_type, Answer, Grant, Sizes};
 use read_back::ReadBack;
+use waiters::Waiters;
 use window::Window;
 
 pub struct Ledger {
@@ -27,7 +28,13 @@ pub struct Ledger {
     active: Vec<u32>,
     read_back: ReadBack,
     window: Window,
+    waiters: Waiters,
     tallies: Vec<Tally>,
+}
+
+/// What the lists of a run must have shown.
+pub fn required() -> Labels {
+    [read_back::required(), deadline::required()].concat()
 }
 
 /// One counter: its setting, and the bytes that it counted since its event was set.
@@ -54,6 +61,7 @@ impl super::Ledger for Ledger {
             active: words,
             read_back: ReadBack::after_reset(setup),
             window: Window::open(setup),
+            waiters: Waiters::after_reset(setup),
             tallies: vec![Tally::default(); setup.nm as usize],
         }
     }
@@ -97,25 +105,35 @@ impl super::Ledger for Ledger {
         match call {
             Call::Request(request) => return self.request(request, answer.grant),
             Call::DeviceRequest(device) => return self.request(&request_of(device), answer.grant),
-            Call::EndWindow => {
-                self.active = self.configured.clone();
-                self.window = Window::open(&self.setup);
-                self.read_back.end_window();
-            }
+            Call::Wait(request) => return self.wait(request),
+            Call::Need { rcid } => return self.claim_need(*rcid, answer.value),
+            Call::EndWindow => self.end_window(),
             _ => {}
         }
         Ok(())
     }
 
+    /// Which waits are refused is the ledger's too.
+    fn refused(&self, call: &Call, number: u64) -> Result<(), String> {
+        let expected = match call {
+            Call::Wait(request) => self.waiters.refusal(&self.setup, request),
+            Call::Need { rcid } => 7 * (*rcid >= self.setup.nr) as u64,
+            _ => return Ok(()),
+        };
+        claim(number == expected, || format!("refused by {number}, not {expected}: {call:?}"))
+    }
+
     fn check(&self, state: &State) -> Result<(), String> {
         self.check_settings(state)?;
         self.window.check(&self.setup, &self.active)?;
+        self.waiters.check(&self.setup, &state.waiters)?;
         self.check_counters(state)
     }
 
     fn shown(&self, call: &Call) -> Labels {
         match *call {
             Call::Write { offset: ALLOC_CTL, value, .. } => self.shown_by_reading(value),
+            Call::EndWindow => self.waiters.shown.clone(),
             _ => Labels::new(),
         }
     }
@@ -150,11 +168,41 @@ impl Ledger {
         let at = access_type(request.at, self.setup.na);
         let holder = holder_of(&self.setup, &self.active, request.rcid, at);
         self.window.note(holder, request.bytes as u64, grant);
+        self.tally(&Request { at, ..*request }, grant);
+        Ok(())
+    }
+
+    /// Adds a grant to its counter, if that matches.
+    fn tally(&mut self, request: &Request, grant: Grant) {
         let tally = &mut self.tallies[request.mcid as usize];
-        if counted(tally.setting, at, request.kind) {
+        if counted(tally.setting, request.at, request.kind) {
             tally.total = tally.total.map(|total| total + grant.sum() as u128);
         }
+    }
+
+    /// A call that puts a request to wait asks nothing.
+    fn wait(&mut self, request: &Request) -> Result<(), String> {
+        let refusal = self.waiters.refusal(&self.setup, request);
+        claim(refusal == 0, || format!("accepted, not refused by {refusal}: {request:?}"))?;
+        self.waiters.put(&self.setup, request);
         Ok(())
+    }
+
+    fn claim_need(&self, rcid: u64, value: u64) -> Result<(), String> {
+        claim(rcid < self.setup.nr, || format!("accepted with RCID {rcid}"))?;
+        let expected = self.waiters.need(rcid);
+        claim(value == expected, || format!("RCID {rcid} read {value} as need, not {expected}"))
+    }
+
+    /// Opens a window, in which what the waiters need is asked and what they are served granted.
+    fn end_window(&mut self) {
+        self.active = self.configured.clone();
+        self.window = Window::open(&self.setup);
+        self.read_back.end_window();
+        for served in self.waiters.end_window(&self.setup, &self.active) {
+            self.window.note(served.holder, served.request.bytes as u64, served.grant);
+            self.tally(&served.request, served.grant);
+        }
     }
 
     fn check_settings(&self, state: &State) -> Result<(), String> {
@@ -333,6 +381,43 @@ mod tests {
             assert!(ledger.observe(&call, Answer::value(0)).is_err(), "mode {mode}");
             assert!(ledger.observe(&call, Answer::refused(7)).is_ok());
         }
+    }
+
+    fn wait(rcid: u64, bytes: u32) -> Call {
+        Call::Wait(Request { rcid, mcid: 0, at: 1, kind: 0, bytes })
+    }
+
+    /// RCID 0 has 1,920 bytes for both access types, and the pool 3,200.
+    #[test]
+    fn what_a_waiter_needs_is_asked_in_the_window_that_opens() {
+        let (mut state, mut ledger) = in_use();
+        make(&mut state, &mut ledger, &wait(0, 6_000)).unwrap();
+        assert_eq!(ledger.window.asked, [0; 8]);
+        make(&mut state, &mut ledger, &Call::EndWindow).unwrap();
+        assert_eq!(ledger.window.asked, [6_000, 0, 0, 0, 0, 0, 0, 0]);
+        assert_eq!(ledger.window.granted[0], Grant { reserved: 1_920, pool: 3_200 });
+        assert_eq!(ledger.window.all, Grant { reserved: 1_920, pool: 3_200 });
+        assert_eq!(ledger.tallies[0].total, Some(5_120));
+        make(&mut state, &mut ledger, &Call::EndWindow).unwrap();
+        assert_eq!(ledger.window.asked, [880, 0, 0, 0, 0, 0, 0, 0]);
+        assert_eq!(ledger.tallies[0].total, Some(6_000));
+    }
+
+    #[test]
+    fn needs_and_refusals_are_the_ledgers() {
+        let (mut state, mut ledger) = in_use();
+        make(&mut state, &mut ledger, &wait(0, 50)).unwrap();
+        let need = |rcid| Call::Need { rcid };
+        assert!(ledger.observe(&need(0), Answer::value(50)).is_ok());
+        assert!(ledger.observe(&need(0), Answer::value(49)).is_err());
+        assert!(ledger.observe(&need(1), Answer::value(0)).is_ok());
+        assert!(ledger.observe(&need(1), Answer::refused(7)).is_err());
+        assert!(ledger.observe(&need(4), Answer::refused(7)).is_ok());
+        assert!(ledger.observe(&wait(0, 0), Answer::refused(10)).is_ok());
+        assert!(ledger.observe(&wait(0, 0), Answer::refused(11)).is_err());
+        assert!(ledger.observe(&wait(0, 1), Answer::value(0)).is_err());
+        assert!(ledger.observe(&wait(1, 0), Answer::refused(11)).is_ok());
+        assert!(ledger.observe(&wait(1, 1), Answer::refused(11)).is_err());
     }
 
     #[test]

@@ -26,15 +26,15 @@ pub trait Checked: Sized {
     fn fault(&self) -> Option<&'static str>;
 
     /// Refusals of a call that this controller alone has, by its own arguments, or 0.
-    fn own_refusal(setup: &Setup<Self>, call: &Self::Call) -> u64;
+    fn own_refusal(&self, call: &Self::Call) -> u64;
 
     /// Refusals 4 and on, which go by the call's own arguments, or 0.
-    fn argument_refusal(setup: &Setup<Self>, call: &Self::Call) -> u64 {
+    fn argument_refusal(&self, call: &Self::Call) -> u64 {
         match call.common() {
             Common::Reset(_) => 0,
             Common::Read { size, offset } => access_refusal(size, offset),
             Common::Write { size, offset, value } => write_refusal(size, offset, value),
-            Common::Own => Self::own_refusal(setup, call),
+            Common::Own => self.own_refusal(call),
         }
     }
 
@@ -57,7 +57,7 @@ pub trait Checked: Sized {
         } else if call.as_reset().is_none() && !self.well_formed() {
             3
         } else {
-            Self::argument_refusal(setup, call)
+            self.argument_refusal(call)
         }
     }
 }

@@ -4,12 +4,13 @@ use super::super::common::{damaged_counter, damaged_event, damaged_setup, flippe
 use super::super::{Change, Random};
 use crate::model::bandwidth::settings::{all_reserved, is_holder, reserved, MWEIGHT};
 use crate::model::bandwidth::slices::*;
+use crate::model::bandwidth::waiters::{AT, MCID, NEED, WRITE};
 use crate::model::bandwidth::{pool_size, Setup, State, LAST_EVENT};
 use crate::model::Sizes;
 
 /// A flipped bit, or a word overwritten with a value at the end of what is allowed there.
 pub fn damage(random: &mut Random, state: &State, lengths: &[usize]) -> Change {
-    match random.below(9) {
+    match random.below(10) {
         0 | 1 => flipped_bit(random, lengths),
         2 => setup_word(random, &state.record.setup),
         3 => register_word(random, state),
@@ -17,7 +18,8 @@ pub fn damage(random: &mut Random, state: &State, lengths: &[usize]) -> Change {
         5 => used(random, state),
         6 => weight(random, state),
         7 => damaged_counter(random, COUNTERS, &state.record.setup, 61, 3 << 62),
-        _ => damaged_event(random, EVENTS, &state.record.setup, LAST_EVENT),
+        8 => damaged_event(random, EVENTS, &state.record.setup, LAST_EVENT),
+        _ => waiter(random, state),
     }
 }
 
@@ -98,4 +100,27 @@ fn used(random: &mut Random, state: &State) -> Change {
     let limit = reserved(state.active[place]) * setup.q;
     let value = random.pick(&[0, 1, limit, limit + 1, limit + setup.q, 0xFFFF_FFFF]);
     Change::word(USED, 4, place, value & 0xFFFF_FFFF)
+}
+
+/// A word of waiters: at the ends of what a call stores, or just beyond in one field.
+fn waiter(random: &mut Random, state: &State) -> Change {
+    let setup = &state.record.setup;
+    let place = random.place(setup.nr);
+    let [mcid, at] = [setup.nm, setup.na].map(|count| random.below(count));
+    let good = NEED.place(random.between(1, u32::MAX as u64)) | MCID.place(mcid) | AT.place(at);
+    let value = match random.below(9) {
+        0 => 0,
+        1 => good | WRITE.mask(),
+        2 => good & !NEED.mask(),
+        3 => WRITE.mask(),
+        4 => good & !MCID.mask() | MCID.place(setup.nm & 0xFF),
+        5 => good & !AT.mask() | AT.place(setup.na & 7),
+        6 => {
+            let any = random.between(44, 63);
+            good | 1 << random.pick(&[44, 63, any])
+        }
+        7 => state.waiters[place] ^ 1 << random.below(64),
+        _ => random.next(),
+    };
+    Change::word(WAITERS, 8, place, value)
 }

@@ -2,6 +2,7 @@
 
 use super::super::{Random, Step};
 use super::operand::any_weight;
+use super::waiters::any_waiters;
 use super::{any_call, damage, Steps};
 use crate::image::Image;
 use crate::model::bandwidth::settings::{reserved, MWEIGHT, RBWB, SHARED_AT, USE_SHARED};
@@ -49,7 +50,8 @@ fn any_state(random: &mut Random, setup: &Setup) -> State {
     let counters =
         (0..setup.nm).map(|_| up_to(random, (1 << setup.w) - 1) | random.below(4) << 62).collect();
     let events = (0..setup.nm).map(|_| any_event(random, setup.na)).collect();
-    State { record, active, configured, used, counters, events }
+    let waiters = any_waiters(random, setup, &configured);
+    State { record, active, configured, used, counters, events, waiters }
 }
 
 /// 0, the limit, or any number between.

@@ -2,32 +2,14 @@
 //! window ends.
 
 use super::operand::{holders_of, modest_operand};
+use super::plan::Plan;
 use super::{any_request, configuration, likely_request, reading_back, Steps};
 use crate::generator::{Random, Step};
 use crate::model::bandwidth::{Call, Request, State};
-use crate::model::{Checked, Performs};
-
-/// Steps, each chosen for the state that those before it leave.
-struct Plan {
-    state: State,
-    steps: Steps,
-}
-
-impl Plan {
-    fn add(&mut self, steps: Steps) {
-        let lengths = State::lengths(self.state.setup());
-        for step in steps {
-            if let Step::Call(call) = &step {
-                self.state.perform(&lengths, call);
-            }
-            self.steps.push(step);
-        }
-    }
-}
 
 pub fn weights(random: &mut Random, state: &State) -> Steps {
     let rcid = any_rcid(random, state);
-    let mut plan = Plan { state: state.clone(), steps: Steps::new() };
+    let mut plan = Plan::new(state);
     for _ in 0..random.between(2, 8) {
         let steps = next(random, &plan.state, rcid);
         plan.add(steps);

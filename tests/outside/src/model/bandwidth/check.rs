@@ -5,6 +5,7 @@ use super::settings::{
     all_reserved, bad_share, is_sharer, named_bits, one_weight_each, reserved, shared_at,
     stored_form,
 };
+use super::waiters::waiter_well_formed;
 use super::{Call, Record, Request, Setup, State, LAST_EVENT};
 use crate::model::check::Checked;
 use crate::model::monitor::monitor_fault;
@@ -31,11 +32,11 @@ impl Checked for State {
             && (1..=65_536).contains(&setup.q)
     }
 
-    /// The lengths of active, configured, used, counters and events in bytes.
+    /// The lengths of active, configured, used, counters, events and waiters in bytes.
     fn table_lengths(setup: &Setup) -> Vec<usize> {
         let words = 4 * setup.pairs();
-        let nm = setup.nm as usize;
-        vec![words, words, words, 8 * nm, 2 * nm]
+        let [nm, nr] = [setup.nm, setup.nr].map(|count| count as usize);
+        vec![words, words, words, 8 * nm, 2 * nm, 8 * nr]
     }
 
     fn fault(&self) -> Option<&'static str> {
@@ -54,12 +55,15 @@ impl Checked for State {
             Some("used bytes")
         } else if self.record.pool_given > pool_size(setup, &self.active) {
             Some("the pool's bytes")
+        } else if !self.waiters.iter().all(|&word| waiter_well_formed(setup, word)) {
+            Some("a waiter")
         } else {
             monitor_fault(setup, LAST_EVENT, CTR, &self.counters, &self.events)
         }
     }
 
-    fn own_refusal(setup: &Setup, call: &Call) -> u64 {
+    fn own_refusal(&self, call: &Call) -> u64 {
+        let setup = &self.record.setup;
         match call {
             Call::Request(request) if names_unknown(setup, request) => 7,
             Call::DeviceRequest(device) if names_unknown(setup, &device.request()) => {
@@ -69,7 +73,23 @@ impl Checked for State {
                     7
                 }
             }
+            Call::Wait(request) => self.wait_refusal(request),
+            Call::Need { rcid } if *rcid >= setup.nr => 7,
             _ => 0,
+        }
+    }
+}
+
+impl State {
+    fn wait_refusal(&self, request: &Request) -> u64 {
+        if names_unknown(&self.record.setup, request) {
+            7
+        } else if self.waiters[request.rcid as usize] != 0 {
+            10
+        } else if request.bytes == 0 {
+            11
+        } else {
+            0
         }
     }
 }
@@ -111,6 +131,7 @@ fn used_well_formed(state: &State) -> bool {
 #[cfg(test)]
 mod tests {
     use super::super::limits::bad_operand;
+    use super::super::reset::after_reset;
     use super::super::DeviceRequest;
     use super::*;
     use crate::generator::Random;
@@ -159,7 +180,7 @@ mod tests {
     fn identifiers_of_devices() {
         let refusal = |mode: u64, word: u64| {
             let device = DeviceRequest { mode, word, at: 0, kind: 0, bytes: 0 };
-            State::own_refusal(&SETUP, &Call::DeviceRequest(device))
+            after_reset(&SETUP).own_refusal(&Call::DeviceRequest(device))
         };
         let [register, context] = [0x0000_0000_0000_0001, 0x0000_0100_0000_0000];
         assert_eq!([0, 1, 2, 3].map(|mode| refusal(mode, register | context)), [0; 4]);
@@ -167,6 +188,19 @@ mod tests {
         assert_eq!([0, 1, 2, 3].map(|mode| refusal(mode, 2 * context)), [0, 0, 9, 9]);
         assert_eq!([0, 1, 2, 3].map(|mode| refusal(mode, 1 << 16)), [7, 7, 0, 0]);
         assert_eq!([0, 1, 2, 3].map(|mode| refusal(mode, 1 << 52)), [0, 0, 9, 9]);
+    }
+
+    /// NR is 2 and NM 1; under RCID 1 a request waits.
+    #[test]
+    fn order_of_a_waits_refusals() {
+        let mut state = after_reset(&SETUP);
+        state.waiters[1] = 1;
+        let refusal = |rcid: u64, mcid: u64, bytes: u32| {
+            state.own_refusal(&Call::Wait(Request { rcid, mcid, at: 0, kind: 0, bytes }))
+        };
+        assert_eq!([refusal(0, 0, 1), refusal(0, 0, 0)], [0, 11]);
+        assert_eq!([refusal(1, 0, 1), refusal(1, 0, 0)], [10, 10]);
+        assert_eq!([refusal(2, 0, 0), refusal(1, 1, 0), refusal(0, 1, 1)], [7, 7, 7]);
     }
 
     #[test]

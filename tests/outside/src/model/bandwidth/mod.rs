@@ -6,6 +6,7 @@ mod limits;
 mod request;
 mod reset;
 pub mod settings;
+pub mod waiters;
 
 pub use check::{TWO_CONFIGURED_WEIGHTS, TWO_WEIGHTS_IN_FORCE};
 pub use limits::alloc_status;
@@ -28,6 +29,7 @@ pub mod slices {
     pub const USED: usize = 3;
     pub const COUNTERS: usize = 4;
     pub const EVENTS: usize = 5;
+    pub const WAITERS: usize = 6;
 }
 
 /// The numbers that a reset is given.
@@ -69,9 +71,11 @@ pub struct State {
     pub used: Vec<u32>,
     pub counters: Vec<u64>,
     pub events: Vec<u16>,
+    /// The request that waits under each RCID.
+    pub waiters: Vec<u64>,
 }
 
-/// One call with its arguments.
+/// One call with its arguments. Wait puts a request to wait, Need is what an RCID's still waits for.
 #[derive(Clone, Debug, PartialEq, Eq)]
 pub enum Call {
     Reset(Setup),
@@ -79,6 +83,8 @@ pub enum Call {
     Write { size: u64, offset: u64, value: u64 },
     Request(Request),
     DeviceRequest(DeviceRequest),
+    Wait(Request),
+    Need { rcid: u64 },
     EndWindow,
 }
 
@@ -136,6 +142,13 @@ impl Performs for State {
         match call {
             Call::Request(request) => return request::answer(self, request),
             Call::DeviceRequest(device) => return request::answer(self, &device.request()),
+            Call::Wait(request) => {
+                self.waiters[request.rcid as usize] =
+                    waiters::word_of(request, self.record.setup.na);
+            }
+            Call::Need { rcid } => {
+                return Answer::value(waiters::NEED.get(self.waiters[*rcid as usize]));
+            }
             Call::EndWindow => end_window(self),
             _ => {}
         }
@@ -152,4 +165,5 @@ fn end_window(state: &mut State) {
     state.active = state.configured.clone();
     state.used.fill(0);
     state.record.pool_given = 0;
+    waiters::serve(state);
 }

@@ -26,11 +26,15 @@ pub fn answer(state: &mut State, request: &Request) -> Answer {
 
     state.used[place] += own as u32;
     state.record.pool_given += extra;
-    let mcid = request.mcid as usize;
-    if counted(state.events[mcid], at, request.kind) {
-        state.counters[mcid] = add_to_counter(state.counters[mcid], own + extra, setup.w);
-    }
+    count(state, request.mcid as usize, at, request.kind, own + extra);
     Answer::granted(own, extra)
+}
+
+/// Adds granted bytes to the counter of an MCID, if it counts this access type and kind.
+pub fn count(state: &mut State, mcid: usize, at: u64, kind: u64, bytes: u64) {
+    if counted(state.events[mcid], at, kind) {
+        state.counters[mcid] = add_to_counter(state.counters[mcid], bytes, state.record.setup.w);
+    }
 }
 
 /// The place of the holder that a pair's requests are led to by the words in force, if any.

@@ -4,7 +4,8 @@ use super::settings::{MWEIGHT, RBWB, USE_SHARED};
 use super::{Record, Setup, State};
 use crate::model::Sizes;
 
-/// RCID 0 holds MRBWB blocks with weight 1 at AT 0, its other ATs share AT 0, and all else is 0.
+/// RCID 0 holds MRBWB blocks with weight 1 at AT 0, its other ATs share AT 0, and all else is 0:
+/// nobody waits.
 pub fn after_reset(setup: &Setup) -> State {
     let words = first_settings(setup);
     State {
@@ -14,6 +15,7 @@ pub fn after_reset(setup: &Setup) -> State {
         used: vec![0; setup.pairs()],
         counters: vec![0; setup.nm as usize],
         events: vec![0; setup.nm as usize],
+        waiters: vec![0; setup.nr as usize],
     }
 }
 

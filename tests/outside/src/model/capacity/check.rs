@@ -41,7 +41,8 @@ impl Checked for State {
         }
     }
 
-    fn own_refusal(setup: &Setup, call: &Call) -> u64 {
+    fn own_refusal(&self, call: &Call) -> u64 {
+        let setup = &self.record.setup;
         match call {
             Call::Fill(e) | Call::Evict(e) if e.rcid >= setup.nr || e.mcid >= setup.nm => 7,
             Call::Fill(e) | Call::Evict(e) if e.block >= setup.ncblks => 8,
