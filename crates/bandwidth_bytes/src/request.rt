@@ -130,8 +130,23 @@ fn serve(
     gave.grant
 }
 
-// A request with these identifiers, refused for `unknown` where one of them is out of range.
+// The answer of a request that is refused: nothing is granted.
+fn refused(number: u64) -> Served
+    ensures { λ r. ⌜ (r .number ≡ number) × ((r .grant .reserved ≡ 0) × (r .grant .pool ≡ 0)) ⌝ }
+{
+    let none = Grant {
+        reserved: 0,
+        pool: 0,
+    };
+    Served {
+        number,
+        grant: none,
+    }
+}
+
+// A request with these identifiers that passed checks 1 to 3, refused for `unknown` where one of them is out of range.
 fn request_by(
+    held: Held,
     record: &mut [u8],
     active: &[u8],
     configured: &[u8],
@@ -146,45 +161,31 @@ fn request_by(
     kind: u64,
     bytes: u32,
 ) -> Served
+    requires { ⌜ Passing (lent (now «record») (now active) (now configured) (now used) (now counters) (now events) (now waiters)) held ⌝ }
     ensures { λ r. ⌜ ((c : Call) → Asks c (numberOf unknown) rcid mcid at kind bytes
         → reply (r .number) (r .grant .reserved ∷ r .grant .pool ∷ []) (after «record» active configured used counters events waiters) ≡ stepBytes (before «record» active configured used counters events waiters) c) ⌝ }
 {
-    let none = Grant {
-        reserved: 0,
-        pool: 0,
-    };
-    match checked(record, active, configured, used, counters, events, waiters) {
-        Check::Failed(number) => Served {
-            number,
-            grant: none,
-        },
-        Check::Passed(held) => {
-            let given = held.record;
-            let setup = given.setup;
-            if (setup.nr <= rcid) | (setup.nm <= mcid) {
-                return Served {
-                    number: refusal_number(unknown),
-                    grant: none,
-                };
-            }
-            let grant = serve(
-                held,
-                record,
-                active,
-                configured,
-                used,
-                counters,
-                events,
-                waiters,
-                rcid,
-                mcid,
-                at,
-                kind,
-                bytes,
-            );
-            Served { number: 0, grant }
-        }
+    let given = held.record;
+    let setup = given.setup;
+    if (setup.nr <= rcid) | (setup.nm <= mcid) {
+        return refused(refusal_number(unknown));
     }
+    let grant = serve(
+        held,
+        record,
+        active,
+        configured,
+        used,
+        counters,
+        events,
+        waiters,
+        rcid,
+        mcid,
+        at,
+        kind,
+        bytes,
+    );
+    Served { number: 0, grant }
 }
 
 pub fn request(
@@ -203,21 +204,25 @@ pub fn request(
 ) -> Served
     ensures { λ r. ⌜ reply (r .number) (r .grant .reserved ∷ r .grant .pool ∷ []) (after «record» active configured used counters events waiters) ≡ stepBytes (before «record» active configured used counters events waiters) (request rcid mcid at kind bytes) ⌝ }
 {
-    request_by(
-        record,
-        active,
-        configured,
-        used,
-        counters,
-        events,
-        waiters,
-        rcid,
-        mcid,
-        Refusal::Identifier,
-        at,
-        kind,
-        bytes,
-    )
+    match checked(record, active, configured, used, counters, events, waiters) {
+        Check::Failed(number) => refused(number),
+        Check::Passed(held) => request_by(
+            held,
+            record,
+            active,
+            configured,
+            used,
+            counters,
+            events,
+            waiters,
+            rcid,
+            mcid,
+            Refusal::Identifier,
+            at,
+            kind,
+            bytes,
+        ),
+    }
 }
 
 // A device's request, by the IOMMU's mode and the word of its register or of the device context.
@@ -237,20 +242,26 @@ pub fn device_request(
 ) -> Served
     ensures { λ r. ⌜ reply (r .number) (r .grant .reserved ∷ r .grant .pool ∷ []) (after «record» active configured used counters events waiters) ≡ stepBytes (before «record» active configured used counters events waiters) (deviceRequest mode word at kind bytes) ⌝ }
 {
-    let ids = identifiers_in(mode, word);
-    request_by(
-        record,
-        active,
-        configured,
-        used,
-        counters,
-        events,
-        waiters,
-        ids.rcid,
-        ids.mcid,
-        out_of_range(mode),
-        at,
-        kind,
-        bytes,
-    )
+    match checked(record, active, configured, used, counters, events, waiters) {
+        Check::Failed(number) => refused(number),
+        Check::Passed(held) => {
+            let ids = identifiers_in(mode, word);
+            request_by(
+                held,
+                record,
+                active,
+                configured,
+                used,
+                counters,
+                events,
+                waiters,
+                ids.rcid,
+                ids.mcid,
+                out_of_range(mode),
+                at,
+                kind,
+                bytes,
+            )
+        }
+    }
 }
