@@ -27,12 +27,13 @@ fn turn(
     used: &mut [u32],
     counters: &mut [u64],
     events: &mut [u16],
+    waiters: &mut [u64],
     chunk: &mut [u8],
     out: &mut [u8],
 ) -> Chunk
-    requires { ⌜ Tables (now active) (now configured) (now used) (now counters) (now events) × (lineRoom * length (now chunk) ≤ length (now out)) ⌝ }
-    ensures { λ r. ⌜ Fed (controllerOf (state .«record») (now (active .entry)) (now (configured .entry)) (now (used .entry)) (now (counters .entry)) (now (events .entry))) (take (state .len) (state .line)) (take (r .got) (now (chunk .exit)))
-        (controllerOf (r .progress .state .«record») (now (active .exit)) (now (configured .exit)) (now (used .exit)) (now (counters .exit)) (now (events .exit))) (take (r .progress .state .len) (r .progress .state .line)) (now (out .exit)) (r .progress .used) ⌝ }
+    requires { ⌜ Tables (now active) (now configured) (now used) (now counters) (now events) (now waiters) × (lineRoom * length (now chunk) ≤ length (now out)) ⌝ }
+    ensures { λ r. ⌜ Fed (controllerOf (state .«record») (now (active .entry)) (now (configured .entry)) (now (used .entry)) (now (counters .entry)) (now (events .entry)) (now (waiters .entry))) (take (state .len) (state .line)) (take (r .got) (now (chunk .exit)))
+        (controllerOf (r .progress .state .«record») (now (active .exit)) (now (configured .exit)) (now (used .exit)) (now (counters .exit)) (now (events .exit)) (now (waiters .exit))) (take (r .progress .state .len) (r .progress .state .line)) (now (out .exit)) (r .progress .used) ⌝ }
 {
     let count = libc::read(STDIN_FILENO, chunk);
     let got = io::count(count, chunk);
@@ -43,6 +44,7 @@ fn turn(
         used,
         counters,
         events,
+        waiters,
         &chunk[..got],
         out,
     );
@@ -56,10 +58,11 @@ fn listen(
     used: &mut [u32],
     counters: &mut [u64],
     events: &mut [u16],
+    waiters: &mut [u64],
     chunk: &mut [u8],
     out: &mut [u8],
 )
-    requires { ⌜ Tables (now active) (now configured) (now used) (now counters) (now events) × ((1 ≤ length (now chunk)) × (lineRoom * length (now chunk) ≤ length (now out))) ⌝ }
+    requires { ⌜ Tables (now active) (now configured) (now used) (now counters) (now events) (now waiters) × ((1 ≤ length (now chunk)) × (lineRoom * length (now chunk) ≤ length (now out))) ⌝ }
 {
     let mut state = start();
     let mut turns = u64::MAX;
@@ -72,6 +75,7 @@ fn listen(
             used,
             counters,
             events,
+            waiters,
             chunk,
             out,
         );
@@ -82,7 +86,16 @@ fn listen(
         state = progress.state;
         turns -= 1;
     }
-    let end = finish(state, active, configured, used, counters, events, out);
+    let end = finish(
+        state,
+        active,
+        configured,
+        used,
+        counters,
+        events,
+        waiters,
+        out,
+    );
     io::write_all(STDOUT_FILENO, &out[..end]);
 }
 
@@ -93,7 +106,7 @@ fn room32() -> [u32; 2048]
     [0; 2048]
 }
 
-// A word for each of 256 MCIDs.
+// A word for each of 256 MCIDs or RCIDs.
 fn room64() -> [u64; 256]
     ensures { λ r. ⌜ 256 ≡ length r ⌝ }
 {
@@ -125,6 +138,7 @@ fn main() {
     let mut used = room32();
     let mut counters = room64();
     let mut events = room16();
+    let mut waiters = room64();
     let mut chunk = chunk_room();
     let mut out = out_room();
     listen(
@@ -133,6 +147,7 @@ fn main() {
         &mut used,
         &mut counters,
         &mut events,
+        &mut waiters,
         &mut chunk,
         &mut out,
     );

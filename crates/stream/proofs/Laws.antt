@@ -137,13 +137,13 @@ module _ (chunk : List ℕ) (from i : ℕ) (ends : Ends chunk from i) (c : Contr
 
 -- ---- what is kept: one answer more
 
-pub kept-more : {active configured used counters events out active′ configured′ used′ counters′ events′ mid active″ configured″ used″ counters″ events″ new text : List ℕ} {room e r : ℕ} → KeptBeyond active configured used counters events out active′ configured′ used′ counters′ events′ mid e → KeptFrom 2048 256 active′ configured′ used′ counters′ events′ active″ configured″ used″ counters″ events″
-    → Wrote room mid e text new r → KeptBeyond active configured used counters events out active″ configured″ used″ counters″ events″ new r
+pub kept-more : {active configured used counters events waiters out active′ configured′ used′ counters′ events′ waiters′ mid active″ configured″ used″ counters″ events″ waiters″ new text : List ℕ} {room e r : ℕ} → KeptBeyond active configured used counters events waiters out active′ configured′ used′ counters′ events′ waiters′ mid e → KeptFrom 2048 256 256 active′ configured′ used′ counters′ events′ waiters′ active″ configured″ used″ counters″ events″ waiters″
+    → Wrote room mid e text new r → KeptBeyond active configured used counters events waiters out active″ configured″ used″ counters″ events″ waiters″ new r
 kept-more {out = out} {mid = mid} {e = e} {r = r} k t w = record { tables = kept-both (k .tables) t; bytes = w .rest ∙ beyond e r mid out (w .grows) (k .bytes) }
 
 -- ---- the loop's invariant: what is left of the chunk leads to the same end
 
-pub record Going (start : Stream) (chunk out₀ active₀ configured₀ used₀ counters₀ events₀ : List ℕ) (r : Record) (active configured used counters events line : List ℕ)
+pub record Going (start : Stream) (chunk out₀ active₀ configured₀ used₀ counters₀ events₀ waiters₀ : List ℕ) (r : Record) (active configured used counters events waiters line : List ℕ)
     (n end from i : ℕ) (out : List ℕ) : Type 0 where
   pub ends : Ends chunk from i
   pub few : n ≤ 81
@@ -153,10 +153,11 @@ pub record Going (start : Stream) (chunk out₀ active₀ configured₀ used₀ 
   pub of-used : length used ≡ length used₀
   pub of-counters : length counters ≡ length counters₀
   pub of-events : length events ≡ length events₀
+  pub of-waiters : length waiters ≡ length waiters₀
   pub size : length out ≡ length out₀
   pub room : end + lineRoom * (length chunk - from) ≤ length out
-  pub is : feedOf start chunk ≡ feedOf (stream (controllerOf r active configured used counters events) (take n line) (take end out)) (drop from chunk)
-  pub kept : KeptBeyond active₀ configured₀ used₀ counters₀ events₀ out₀ active configured used counters events out end
+  pub is : feedOf start chunk ≡ feedOf (stream (controllerOf r active configured used counters events waiters) (take n line) (take end out)) (drop from chunk)
+  pub kept : KeptBeyond active₀ configured₀ used₀ counters₀ events₀ waiters₀ out₀ active configured used counters events waiters out end
 
 -- ---- the promises, from their equations
 

@@ -74,7 +74,7 @@ fullLine (b ∷ h) part = b ∷ h
 
 -- the state before an input: no controller, whatever the tables hold, and no byte
 abbrev pub Started : State → Type 0
-Started s = (active configured used counters events : List ℕ) → stream (controllerOf (s .«record») active configured used counters events) (take (s .len) (s .line)) [] ≡ streamOf []
+Started s = (active configured used counters events waiters : List ℕ) → stream (controllerOf (s .«record») active configured used counters events waiters) (take (s .len) (s .line)) [] ≡ streamOf []
 
 -- one line's answer stands at a position of new
 pub record Answered (c : Controller) (line old : List ℕ) (at : ℕ) (c′ : Controller) (new : List ℕ) (r : ℕ) : Type 0 where
@@ -95,8 +95,8 @@ pub record Finished (c : Controller) (held out : List ℕ) (r : ℕ) : Type 0 wh
   pub whole : (text written : List ℕ) → stream c held written ≡ streamOf text → written ++ take r out ≡ outputOf text
   pub used : r ≤ length out
 
--- kept: the words of the tables beyond the largest set-up's 2,048 pairs and 256 MCIDs, and the bytes beyond the first r of out
+-- kept: the words of the tables beyond the largest set-up's 2,048 pairs, 256 MCIDs and 256 RCIDs, and the bytes beyond the first r of out
 -- the words before those and beyond the controller's own are what earlier controllers left, which nobody reads
-pub record KeptBeyond (active configured used counters events out active′ configured′ used′ counters′ events′ out′ : List ℕ) (r : ℕ) : Type 0 where
-  pub tables : KeptFrom 2048 256 active configured used counters events active′ configured′ used′ counters′ events′
+pub record KeptBeyond (active configured used counters events waiters out active′ configured′ used′ counters′ events′ waiters′ out′ : List ℕ) (r : ℕ) : Type 0 where
+  pub tables : KeptFrom 2048 256 256 active configured used counters events waiters active′ configured′ used′ counters′ events′ waiters′
   pub bytes : drop r out′ ≡ drop r out

@@ -37,18 +37,28 @@ fn answer(
     used: &mut [u32],
     counters: &mut [u64],
     events: &mut [u16],
+    waiters: &mut [u64],
     line: &[u8],
     out: &mut [u8],
     at: usize,
 ) -> Line
-    requires { ⌜ Tables (now active) (now configured) (now used) (now counters) (now events) × (at + lineRoom ≤ length (now out)) ⌝ }
-    ensures answers { λ r. ⌜ Answered (controllerOf «record» (now (active .entry)) (now (configured .entry)) (now (used .entry)) (now (counters .entry)) (now (events .entry))) (now (line .entry)) (now (out .entry)) at
-        (controllerOf (r .«record») (now (active .exit)) (now (configured .exit)) (now (used .exit)) (now (counters .exit)) (now (events .exit))) (now (out .exit)) (r .end) ⌝ }
-    ensures tables { λ r. ⌜ KeptFrom 2048 256 (now (active .entry)) (now (configured .entry)) (now (used .entry)) (now (counters .entry)) (now (events .entry))
-        (now (active .exit)) (now (configured .exit)) (now (used .exit)) (now (counters .exit)) (now (events .exit)) ⌝ }
+    requires { ⌜ Tables (now active) (now configured) (now used) (now counters) (now events) (now waiters) × (at + lineRoom ≤ length (now out)) ⌝ }
+    ensures answers { λ r. ⌜ Answered (controllerOf «record» (now (active .entry)) (now (configured .entry)) (now (used .entry)) (now (counters .entry)) (now (events .entry)) (now (waiters .entry))) (now (line .entry)) (now (out .entry)) at
+        (controllerOf (r .«record») (now (active .exit)) (now (configured .exit)) (now (used .exit)) (now (counters .exit)) (now (events .exit)) (now (waiters .exit))) (now (out .exit)) (r .end) ⌝ }
+    ensures tables { λ r. ⌜ KeptFrom 2048 256 256 (now (active .entry)) (now (configured .entry)) (now (used .entry)) (now (counters .entry)) (now (events .entry)) (now (waiters .entry))
+        (now (active .exit)) (now (configured .exit)) (now (used .exit)) (now (counters .exit)) (now (events .exit)) (now (waiters .exit)) ⌝ }
 {
     let command = parse::parse(line);
-    let turned = session::act(record, active, configured, used, counters, events, command);
+    let turned = session::act(
+        record,
+        active,
+        configured,
+        used,
+        counters,
+        events,
+        waiters,
+        command,
+    );
     let reply = turned.reply;
     let end = print::put_line(reply, out, at);
     let after = turned.record;
@@ -146,14 +156,15 @@ pub fn feed(
     used: &mut [u32],
     counters: &mut [u64],
     events: &mut [u16],
+    waiters: &mut [u64],
     chunk: &[u8],
     out: &mut [u8],
 ) -> Progress
-    requires { ⌜ Tables (now active) (now configured) (now used) (now counters) (now events) × (lineRoom * length (now chunk) ≤ length (now out)) ⌝ }
-    ensures answers { λ r. ⌜ Fed (controllerOf (state .«record») (now (active .entry)) (now (configured .entry)) (now (used .entry)) (now (counters .entry)) (now (events .entry))) (take (state .len) (state .line)) (now (chunk .entry))
-        (controllerOf (r .state .«record») (now (active .exit)) (now (configured .exit)) (now (used .exit)) (now (counters .exit)) (now (events .exit))) (take (r .state .len) (r .state .line)) (now (out .exit)) (r .used) ⌝ }
-    ensures lent { λ r. ⌜ KeptBeyond (now (active .entry)) (now (configured .entry)) (now (used .entry)) (now (counters .entry)) (now (events .entry)) (now (out .entry))
-        (now (active .exit)) (now (configured .exit)) (now (used .exit)) (now (counters .exit)) (now (events .exit)) (now (out .exit)) (r .used) ⌝ }
+    requires { ⌜ Tables (now active) (now configured) (now used) (now counters) (now events) (now waiters) × (lineRoom * length (now chunk) ≤ length (now out)) ⌝ }
+    ensures answers { λ r. ⌜ Fed (controllerOf (state .«record») (now (active .entry)) (now (configured .entry)) (now (used .entry)) (now (counters .entry)) (now (events .entry)) (now (waiters .entry))) (take (state .len) (state .line)) (now (chunk .entry))
+        (controllerOf (r .state .«record») (now (active .exit)) (now (configured .exit)) (now (used .exit)) (now (counters .exit)) (now (events .exit)) (now (waiters .exit))) (take (r .state .len) (r .state .line)) (now (out .exit)) (r .used) ⌝ }
+    ensures lent { λ r. ⌜ KeptBeyond (now (active .entry)) (now (configured .entry)) (now (used .entry)) (now (counters .entry)) (now (events .entry)) (now (waiters .entry)) (now (out .entry))
+        (now (active .exit)) (now (configured .exit)) (now (used .exit)) (now (counters .exit)) (now (events .exit)) (now (waiters .exit)) (now (out .exit)) (r .used) ⌝ }
 {
     let mut record = state.record;
     let mut line = state.line;
@@ -171,6 +182,7 @@ pub fn feed(
             used,
             counters,
             events,
+            waiters,
             full_line(&line[..n], part),
             out,
             end,
@@ -200,12 +212,13 @@ pub fn finish(
     used: &mut [u32],
     counters: &mut [u64],
     events: &mut [u16],
+    waiters: &mut [u64],
     out: &mut [u8],
 ) -> usize
-    requires { ⌜ Tables (now active) (now configured) (now used) (now counters) (now events) × (lineRoom ≤ length (now out)) ⌝ }
-    ensures answers { λ r. ⌜ Finished (controllerOf (state .«record») (now (active .entry)) (now (configured .entry)) (now (used .entry)) (now (counters .entry)) (now (events .entry))) (take (state .len) (state .line)) (now (out .exit)) r ⌝ }
-    ensures lent { λ r. ⌜ KeptBeyond (now (active .entry)) (now (configured .entry)) (now (used .entry)) (now (counters .entry)) (now (events .entry)) (now (out .entry))
-        (now (active .exit)) (now (configured .exit)) (now (used .exit)) (now (counters .exit)) (now (events .exit)) (now (out .exit)) r ⌝ }
+    requires { ⌜ Tables (now active) (now configured) (now used) (now counters) (now events) (now waiters) × (lineRoom ≤ length (now out)) ⌝ }
+    ensures answers { λ r. ⌜ Finished (controllerOf (state .«record») (now (active .entry)) (now (configured .entry)) (now (used .entry)) (now (counters .entry)) (now (events .entry)) (now (waiters .entry))) (take (state .len) (state .line)) (now (out .exit)) r ⌝ }
+    ensures lent { λ r. ⌜ KeptBeyond (now (active .entry)) (now (configured .entry)) (now (used .entry)) (now (counters .entry)) (now (events .entry)) (now (waiters .entry)) (now (out .entry))
+        (now (active .exit)) (now (configured .exit)) (now (used .exit)) (now (counters .exit)) (now (events .exit)) (now (waiters .exit)) (now (out .exit)) r ⌝ }
 {
     let n = state.len;
     if n == 0 {
@@ -218,6 +231,7 @@ pub fn finish(
         used,
         counters,
         events,
+        waiters,
         b"\n",
         out,
     );

@@ -8,7 +8,7 @@ use Rattle.stream.proofs.start.Tie as tie
 
 returns : tie.Need-returns
 unfolding controllerOf setupOk between
-returns c = λ active configured used counters events. start-is
+returns c = λ active configured used counters events waiters. start-is
 
 pub start-spec : {M : Type 1} → statement M
 start-spec = tie.close (tie.spec returns)
