@@ -5,7 +5,7 @@ use mathlib.Core.List.{List, [], _∷_}
 use Prim.Native.Nat.{ℕ, _-_, _≤_, _<_}
 use native.Mathlib.Omega.{arith}
 use lib.Dec.{T, leb, eqb, lit<, nleb→lt, leb→le, le→leb}
-use lib.ListN.{getD, set, replicate}
+use lib.ListN.{getD, set}
 use borrow.Author.Tests.{ne-eqb}
 use Rattle.runs.proofs.Checks.{step-failed, step-refused, step-done, reset-failed, reset-done}
 use Rattle.access.specs.Checks.{_gives_, first}
@@ -22,7 +22,7 @@ use Rattle.tables.specs.Parts.{part, withPart, RowAt}
 use Rattle.tables.proofs.Tests.{cases, nor-l, nor-r, not-in, is-true, is-false, of-true, of-false}
 use Rattle.monitor.specs.Monitor.{Monitor, cleared, monStatus, monAfter, writeMon, counted}
 use Rattle.monitor.specs.Bytes.{lastEvent, countsRequest, added}
-use Rattle.bandwidth_model.specs.Rules.{Setup, setupOk, pairs, holderOf, bwWord}
+use Rattle.bandwidth_model.specs.Rules.{Setup, setupOk, holderOf, bwWord}
 use Rattle.bandwidth_model.specs.Calls.{Call, reset, read, write, endWindow, wait, need, Grant, grantSum, refused, done, value, granted}
 use Rattle.bandwidth_model.specs.Claim.{isReset}
 use Rattle.bandwidth_model.specs.View.{Requests}

@@ -8,7 +8,7 @@ use Rattle.tables.proofs.Tests.{and-l, and-r}
 use Rattle.monitor.specs.Monitor.{Monitor}
 use Rattle.bandwidth_model.specs.Rules.{Setup, pairs, poolOf}
 use Rattle.bandwidth_model.specs.Waiters.{weightsBelow}
-use Rattle.bandwidth_model.specs.Model.{State, Usage, wellFormed, usageServed, monitorServed, afterWindow}
+use Rattle.bandwidth_model.specs.Model.{State, wellFormed, monitorServed, afterWindow}
 use Rattle.bandwidth_model.proofs.Waiters.{served-ctl, served-value, served-events}
 use Rattle.bandwidth_grants.specs.View.{usage}
 use Rattle.bandwidth_waiters.specs.Turns.{Tables, tables, turns, Opens}

@@ -62,9 +62,6 @@ module _ (su : Setup) (table waiters : List ℕ) where
     unfolding waitersServed
     word-at = over-keeps _ waiters waiters WordAt (record { long = refl; not-yet = λ h. refl; served = λ h. absurd (omega arith) }) pass-one serve-one
 
-    pub not-yet : (n : ℕ) → n ≤ rcid → getD (waitersServed su table waiters n) rcid 0 ≡ getD waiters rcid 0
-    not-yet n h = word-at n .not-yet h
-
     pub was-served : (n : ℕ) → rcid < n → (getD waiters rcid 0 ≡ 0 → ⊥)
         → getD (waitersServed su table waiters n) rcid 0 ≡ servedWord (getD waiters rcid 0) (grantSum (servedAt su table waiters rcid))
     was-served n h d = word-at n .served h d

@@ -56,6 +56,10 @@ pub record Done (s : State) (between : List Call) (rcid : ℕ) : Type 0 where
   pub cut : between ≡ until ++ rest
   pub reads : step (after step s until) (need rcid) .answer ≡ value 0
 
+-- a request that is put to wait in the state s with the ledger l is done in time
+abbrev pub InTime : State → Ledger → Type 0
+InTime s l =
+    (between : List Call) (rcid mcid at kind n r : ℕ) → Waits s l between rcid mcid at kind n r → Done (step s (wait rcid mcid at kind n) .state) between rcid
+
 pub record Deadline : Type 0 where
-  pub always : Always controller (book .keeper)
-      (λ s l. (between : List Call) (rcid mcid at kind n r : ℕ) → Waits s l between rcid mcid at kind n r → Done (step s (wait rcid mcid at kind n) .state) between rcid)
+  pub always : Always controller (book .keeper) InTime
