@@ -1,5 +1,6 @@
 // Requests that wait, on bytes.
 use crate::Answer;
+use access::Refusal;
 use access::Verdict;
 use access::refusal_number;
 use bandwidth_lent::Check;
@@ -68,7 +69,7 @@ pub fn need(
             let setup = given.setup;
             if setup.nr <= rcid {
                 return Answer {
-                    number: 7,
+                    number: refusal_number(Refusal::Identifier),
                     value: 0,
                 };
             }

@@ -33,6 +33,7 @@ fn weight_at(setup: Setup, active: &[u32], waiters: &[u64], rcid: usize) -> u64
     share_weight(setup, &active[from..to], waiter.at, waiter.need)
 }
 
+// The sum of the weights of all waiters.
 pub fn weights_of(setup: Setup, active: &[u32], waiters: &[u64]) -> u64
     requires { ⌜ Opens (setupOf setup) (now active) (now waiters) ⌝ }
     ensures { λ r. ⌜ r ≡ weightsBelow (setupOf setup) (now (active .entry)) (now (waiters .entry)) (setup .nr) ⌝ }

@@ -90,7 +90,7 @@ pub fn bad_waiter(setup: Setup, word: u64) -> u64
     pick((word == 0) | stored, 0, 1)
 }
 
-// Whether every word of a table is.
+// Whether every word of a table is one that a call stores.
 pub fn waiters_ok(setup: Setup, t: &[u64]) -> bool
     ensures { λ r. ⌜ r ≡ allBelow (length (now (t .entry))) (λ i. waiterOk (setupOf setup) (getD (now (t .entry)) i 0)) ⌝ }
 {

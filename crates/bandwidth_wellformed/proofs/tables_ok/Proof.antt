@@ -40,4 +40,6 @@ returns c =
 pub tables-ok-spec : {M : Type 1} → statement M
 tables-ok-spec =
     tie.close
-    (tie.spec (λ c. search needs) (λ c. search needs) sum-tables-requires (λ c. search needs) (λ c κs. search needs) (λ c. omega (arith, c .before .before .before .before .before .before .before .before .before .before .before .before .pre .0 .na-high)) (λ c κs. c .before .before .before .before .before .before .before .before .before .before .before .before .pre .0 .na-high) (λ c κs. search needs) (λ c κs. search needs) returns)
+    (tie.spec (λ c. search needs) (λ c. search needs) sum-tables-requires (λ c. search needs) (λ c κs. search needs)
+    (λ c. omega (arith, c .before .before .before .before .before .before .before .before .before .before .before .before .pre .0 .na-high))
+    (λ c κs. c .before .before .before .before .before .before .before .before .before .before .before .before .pre .0 .na-high) (λ c κs. search needs) (λ c κs. search needs) returns)

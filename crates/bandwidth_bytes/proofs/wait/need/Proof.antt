@@ -9,7 +9,9 @@ use Rattle.bandwidth_bytes.proofs.wait.need.Statement.{statement}
 use Rattle.bandwidth_bytes.proofs.wait.need.Tie as tie
 
 returns : tie.Need-returns
-returns c = need-refused (passed-of (c .before .before .before .before .before .before .before .checked .ensures) (c .before .before .before .before .before .held .given .1)) _ (c .if1 .taken)
+returns c =
+    rw (c .refusal-number .ensures)
+    (need-refused (passed-of (c .before .before .before .before .before .before .before .before .checked .ensures) (c .before .before .before .before .before .before .held .given .1)) _ (c .before .if1 .taken))
 
 returns-2 : tie.Need-returns-2
 unfolding pointers
@@ -21,4 +23,4 @@ returns-3 c =
     need-done (passed-of (c .before .before .before .before .before .before .before .before .before .checked .ensures) (c .before .before .before .before .before .before .before .held .given .1)) _ (c .before .before .if1 .left) (c .need-of .ensures ∙ ap needOf (c .before .word64 .ensures))
 
 pub need-spec : {M : Type 1} → statement M
-need-spec = tie.close (tie.spec (λ c κs. search needs) (λ c. search needs) (λ c. search needs) returns (λ c κs. search needs) (λ c κs. search needs) returns-2 returns-3)
+need-spec = tie.close (tie.spec (λ c κs. search needs) (λ c. search needs) (λ c. search needs) (λ c κs. search needs) returns (λ c κs. search needs) (λ c κs. search needs) returns-2 returns-3)
