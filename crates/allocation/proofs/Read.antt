@@ -11,7 +11,8 @@ use Rattle.fields.specs.Registers.{allocCtl, heldAt}
 use Rattle.fields.proofs.Registers.{allocCtl-fields, held-held}
 use Rattle.tables.proofs.Tests.{and-l, and-r, and-in, eqb-in, or-l}
 use Rattle.access.specs.Pairs.{Setting, ofPair, anyOf}
-use Rattle.allocation.specs.Allocation.{configLimit, opOf, rcidOf, atOf, statusOf, allocWord, operationStatus, succeeds}
+use Rattle.codes.specs.declared.AllocOp.the-variants.{ConfigLimit}
+use Rattle.allocation.specs.Allocation.{performs, opOf, rcidOf, atOf, statusOf, allocWord, operationStatus, succeeds}
 use Rattle.allocation.proofs.Operations.{status-lt}
 
 -- a setting that is made under a condition is of its own pair exactly where that holds
@@ -44,17 +45,21 @@ module _ (nr na : ℕ) (bad : Bool) (v x : ℕ) (e : x ≡ allocWord na v 0 (ope
   unfolding statusOf
   status-is = ap (λ (l : List ℕ). getD l 1 0) read-fields
 
+  -- the row of OP is the one of the value written
+  op-same : performs ConfigLimit x ≡ performs ConfigLimit v
+  unfolding performs
+  op-same = rw op-is refl
+
   -- CONFIG_LIMIT made the setting exactly where it is read with STATUS 1
   pub read-sets : {X : Type 0} (value : X)
-      → T (anyOf (ofPair (rcidOf x) (atOf na x)) (cond (succeeds nr na bad configLimit v) (record { rcid = rcidOf v; at = atOf na v; value = value } ∷ []) []))
-      ↔ ((opOf x ≡ configLimit) × (statusOf x ≡ 1))
+      → T (anyOf (ofPair (rcidOf x) (atOf na x)) (cond (succeeds nr na bad ConfigLimit v) (record { rcid = rcidOf v; at = atOf na v; value = value } ∷ []) []))
+      ↔ (T (performs ConfigLimit x) × (statusOf x ≡ 1))
   unfolding succeeds
   read-sets value =
-      let op = eqb (opOf v) configLimit in
+      let op = performs ConfigLimit v in
       let st = eqb (operationStatus nr na bad v) 1 in
-      let own = sets-own (succeeds nr na bad configLimit v) (record { rcid = rcidOf v; at = atOf na v; value = value }) in
-      rw (rcid-is, at-is) (
-        λ t. let d = own .0 t in
-            (op-is ∙ eqb→eq (opOf v) configLimit (and-l op st d), status-is ∙ eqb→eq (operationStatus nr na bad v) 1 (and-r op st d)),
-        λ h. own .1 (and-in op st (eqb-in (opOf v) configLimit (sym op-is ∙ h .0)) (eqb-in (operationStatus nr na bad v) 1 (sym status-is ∙ h .1))),
+      let own = sets-own (succeeds nr na bad ConfigLimit v) (record { rcid = rcidOf v; at = atOf na v; value = value }) in
+      rw (rcid-is, at-is, op-same) (
+        λ t. let d = own .0 t in (and-l op st d, status-is ∙ eqb→eq (operationStatus nr na bad v) 1 (and-r op st d)),
+        λ h. own .1 (and-in op st (h .0) (eqb-in (operationStatus nr na bad v) 1 (sym status-is ∙ h .1))),
       )

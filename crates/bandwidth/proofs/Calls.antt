@@ -21,7 +21,8 @@ use Rattle.tables.specs.View.{Small}
 use Rattle.tables.specs.Parts.{part, withPart, RowAt}
 use Rattle.tables.proofs.Tests.{cases, nor-l, nor-r, not-in, is-true, is-false, of-true, of-false}
 use Rattle.monitor.specs.Monitor.{Monitor, cleared, monStatus, monAfter, writeMon, counted}
-use Rattle.monitor.specs.Bytes.{lastEvent, countsRequest, added}
+use Rattle.monitor.specs.Bytes.{countsRequest, added}
+use Rattle.codes.specs.declared.Resource.the-variants.{Bandwidth}
 use Rattle.bandwidth_model.specs.Rules.{Setup, setupOk, holderOf, bwWord}
 use Rattle.bandwidth_model.specs.Calls.{Call, reset, read, write, endWindow, wait, need, Grant, grantSum, refused, done, value, granted}
 use Rattle.bandwidth_model.specs.Claim.{isReset}
@@ -209,7 +210,7 @@ module _ (s : State) (offset v : ℕ) where
   unfolding writeAt writeBw
   write-bw-at w e q = rw (e, q) refl
 
-  pub write-mon-at : (st : ℕ) (m : Monitor) → offset ≡ 8 → Small (monStatus (s .setup .na) (s .setup .nm) lastEvent v) 5 st → m ≡ monAfter (s .setup .na) st (s .monitor) v
+  pub write-mon-at : (st : ℕ) (m : Monitor) → offset ≡ 8 → Small (monStatus (s .setup .na) (s .setup .nm) Bandwidth v) 5 st → m ≡ monAfter (s .setup .na) st (s .monitor) v
       → record { setup = s .setup; alloc = s .alloc; usage = s .usage; monitor = m; waiters = s .waiters } ≡ writeAt s offset v
   unfolding writeAt writeMon
   write-mon-at st m e g q = rw (e, q, g .is) refl

@@ -11,7 +11,7 @@ use Rattle.access.specs.Checks.{first}
 use Rattle.tables.specs.Below.{allBelow}
 use Rattle.tables.proofs.Tests.{and-l, and-r, and-in, eqb-in, same-test}
 use Rattle.monitor.specs.Monitor.{monWord, statusOf, counterOk, settingOk, monitorOk}
-use Rattle.monitor.specs.Bytes.{lastEvent}
+use Rattle.codes.specs.declared.Resource.the-variants.{Bandwidth}
 use Rattle.monitor.proofs.Forms.{named-all}
 use Rattle.bandwidth_model.specs.Rules.{Setup, pairs, reserved, total, poolOf}
 use Rattle.bandwidth_model.specs.View.{Sized}
@@ -90,7 +90,7 @@ module _ (s : State) where
       let tc = tableOk su (s .alloc .configured) in
       let us = allBelow (pairs su) (λ i. leb (getD (u .used) i 0) (reserved (getD (u .active) i 0) * su .q)) in
       let ks = allBelow (su .nm) (λ i. counterOk reg.bandwidthCounter reg.bandwidthCtr (su .w) (getD (m .counters) i 0)) in
-      let es = allBelow (su .nm) (λ i. settingOk (su .na) lastEvent (getD (m .events) i 0)) in
+      let es = allBelow (su .nm) (λ i. settingOk (su .na) Bandwidth (getD (m .events) i 0)) in
       let ws = allBelow (su .nr) (λ i. waiterOk su (getD (s .waiters) i 0)) in
       let vk = eqb (m .value) (namedBits reg.bandwidthCounter (m .value)) in
       let vt : T vk = eqb-in (m .value) (namedBits reg.bandwidthCounter (m .value)) (named-all reg.bandwidthCounter bandwidthCounter-kept (m .value) v) in

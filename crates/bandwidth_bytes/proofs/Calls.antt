@@ -20,7 +20,8 @@ use Rattle.access.specs.declared.Reading.the-variants as reading
 use Rattle.devices.specs.declared.Identifiers.{Identifiers}
 use Rattle.devices.specs.Devices.{identifiersIn, outOfRange}
 use Rattle.monitor.specs.Monitor.{monStatus, monAfter}
-use Rattle.monitor.specs.Bytes.{lastEvent, countsRequest, added}
+use Rattle.monitor.specs.Bytes.{countsRequest, added}
+use Rattle.codes.specs.declared.Resource.the-variants.{Bandwidth}
 use Rattle.monitor.specs.View.{monitorOf}
 use Rattle.monitor.specs.declared.Registers.{Registers}
 use Rattle.monitor_bytes.specs.Monitor as monitor
@@ -213,7 +214,7 @@ module _ {l : Lent} {h : Held} (p : Passing l h) where
         same-bytes _ _ _ _ _ _ _ _ _ _ _ _ _ _ refl (x .active .bytes-are) (x .configured .bytes-are) (x .used .bytes-are) (x .counters .bytes-are) (x .events .bytes-are) (x .waiters .bytes-are)
         ∙ ap lentOf (write-bw-at (stateIn l old) offset v w e q)
 
-    pub mon-written : {st : ℕ} {r : Registers} {N E : List ℕ} → offset ≡ 8 → Small (monStatus (su .na) (su .nm) lastEvent v) 5 st
+    pub mon-written : {st : ℕ} {r : Registers} {N E : List ℕ} → offset ≡ 8 → Small (monStatus (su .na) (su .nm) Bandwidth v) 5 st
         → ((ns es : List ℕ) → Holds 8 (l .counters) ns → Holds 2 (l .events) es
         → monitor.Stores (monAfter (su .na) st (monitorOf (record { ctl = old .«mon_ctl»; value = old .«mon_ctr_val» }) ns es) v) r N E)
         → lent (bytesOfAll 8 (wordsIn (record { setup = old .setup; «mon_ctl» = r .ctl; «mon_ctr_val» = r .value; «alloc_ctl» = old .«alloc_ctl»; «bw_alloc» = old .«bw_alloc»; pool = old .pool })))

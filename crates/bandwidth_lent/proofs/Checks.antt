@@ -16,7 +16,7 @@ use Rattle.words.proofs.Parts.{table-held, table-below}
 use Rattle.access.proofs.Checks.{check-3}
 use Rattle.access.specs.declared.Refusal.the-variants as why
 use Rattle.monitor.specs.Monitor.{counterOk, settingOk}
-use Rattle.monitor.specs.Bytes.{lastEvent}
+use Rattle.codes.specs.declared.Resource.the-variants.{Bandwidth}
 use Rattle.replies.specs.Replies.{refusal}
 use Rattle.bandwidth_setup.specs.View.{setupOf}
 use Rattle.bandwidth_wellformed.specs.Tables.{TablesChecked, Rows, Summed, SummedTables}
@@ -79,7 +79,7 @@ module _ (l : Lent) (r : Record) (w : wordsIn r ≡ wordsOf 8 12 (l .«record»)
   pub tables-summed : {sums : Sums} {k e v : Bool} → Bytes (l .active) → Bytes (l .configured)
       → Summed (su .na) (su .q) (tableOf 4 (l .active)) (tableOf 4 (l .configured)) (tableOf 4 (l .used)) (su .nr) sums
       → k ≡ allBelow (length (tableOf 8 (l .counters))) (λ i. counterOk reg.bandwidthCounter reg.bandwidthCtr (su .w) (getD (tableOf 8 (l .counters)) i 0))
-      → e ≡ allBelow (length (tableOf 2 (l .events))) (λ i. settingOk (su .na) lastEvent (getD (tableOf 2 (l .events)) i 0))
+      → e ≡ allBelow (length (tableOf 2 (l .events))) (λ i. settingOk (su .na) Bandwidth (getD (tableOf 2 (l .events)) i 0))
       → v ≡ allBelow (length (tableOf 8 (l .waiters))) (λ i. waiterOk su (getD (tableOf 8 (l .waiters)) i 0))
       → SummedTables su (tableOf 4 (l .active)) (tableOf 4 (l .configured)) (tableOf 4 (l .used)) (tableOf 8 (l .counters)) (tableOf 2 (l .events)) (tableOf 8 (l .waiters)) sums k e v
   tables-summed a c s k e v = record {

@@ -5,8 +5,8 @@ use crate::sums::sum_bytes;
 use crate::waiters::waiters_ok;
 use bandwidth::Record;
 use bandwidth::Totals;
-use bandwidth_wellformed::LAST_EVENT;
 use bandwidth_wellformed::tables_by;
+use codes::Resource;
 use monitor_bytes::bandwidth_counters_ok;
 use monitor_bytes::events_ok;
 ghost use Rattle.bandwidth_lent.specs.View.{before, Checked};
@@ -49,7 +49,7 @@ pub fn checked(
         setup.q as u32,
     );
     let k = bandwidth_counters_ok(counters, setup.w as u32);
-    let e = events_ok(events, setup.na as u16, LAST_EVENT);
+    let e = events_ok(events, setup.na as u16, Resource::Bandwidth);
     let w = waiters_ok(setup, waiters);
     let tables = tables_by(setup, sums, k, e, w);
     if given.state_ok(tables) {

@@ -9,10 +9,11 @@ use Rattle.access.specs.Access as access
 use Rattle.access.specs.Checks.{isReset, onWrite}
 use Rattle.access.specs.Pairs.{Setting, ofPair}
 use Rattle.access.proofs.Pairs.{other-pair}
-use Rattle.allocation.specs.Allocation.{configLimit, allocWord, tableAfter}
+use Rattle.allocation.specs.Allocation.{allocWord, tableAfter}
 use Rattle.monitor.specs.Monitor.{cleared, writeMon, monWord}
 use Rattle.monitor.specs.Tally.{Tally}
-use Rattle.monitor.specs.Bytes.{lastEvent}
+use Rattle.codes.specs.declared.Resource.the-variants.{Bandwidth}
+use Rattle.codes.specs.declared.AllocOp.the-variants.{ConfigLimit}
 use Rattle.runs.specs.Claims.{controlAfter}
 use Rattle.runs.proofs.Settings as shared
 use Rattle.runs.proofs.Settings.{Acts, Lasts, anew, none, sets-if, Settings}
@@ -36,7 +37,7 @@ parts = record {
   nr = λ su. su .nr;
   na = λ su. su .na;
   nm = λ su. su .nm;
-  last = lastEvent;
+  resource = Bandwidth;
   table = λ s. s .alloc .configured;
   bad = λ s v. badLimit (s .setup) (s .alloc .configured) (s .alloc .bw) v;
   registers = registers;
@@ -93,10 +94,10 @@ sets-call s asked pooled sum closed =
     let su = s .setup in
     let conf = s .alloc .configured in
     let bw = s .alloc .bw in
-    let made : ℕ → Bool → List (Setting ℕ) = λ v x. cond (x && allocSucceeds su conf bw configLimit v) (limitOf su bw v ∷ []) [] in
+    let made : ℕ → Bool → List (Setting ℕ) = λ v x. cond (x && allocSucceeds su conf bw ConfigLimit v) (limitOf su bw v ∷ []) [] in
     call-by s (λ k s′. Sets s s′ (onWrite k (λ size offset v. made v (access.writesLow offset access.allocCtl)) []) (isReset k)) (λ u. anew)
     (λ size offset v. write-by s (λ x y z t. Sets s t (made v x) false) offset v
-    (sets-if _ _ _ s _ (limitOf su bw v) (allocSucceeds su conf bw configLimit v) refl refl
+    (sets-if _ _ _ s _ (limitOf su bw v) (allocSucceeds su conf bw ConfigLimit v) refl refl
     (λ d. let ok = accepted-limit su conf bw v d in record { rcid-low = ok .rcid-low; at-low = ok .at-low; stored = stored-stored bw }))
     (none refl refl) (none refl refl) (none refl refl))
     (λ s′ k. none (k .setup) (ap (λ (a : Allocation). a .configured) (k .alloc)))

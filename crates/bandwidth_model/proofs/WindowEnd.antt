@@ -9,7 +9,8 @@ use lib.Seq.{getD-set-same, getD-set-other}
 use Rattle.fields.specs.Registers as reg
 use Rattle.tables.proofs.Tests.{cases, neqb}
 use Rattle.monitor.specs.Monitor.{Monitor, counted}
-use Rattle.monitor.specs.Bytes.{lastEvent, countsRequest, added}
+use Rattle.monitor.specs.Bytes.{countsRequest, added}
+use Rattle.codes.specs.declared.Resource.the-variants.{Bandwidth}
 use Rattle.monitor.proofs.Counters.{added-ok}
 use Rattle.monitor.proofs.Monitor.{Monitored, monitored-counted}
 use Rattle.bandwidth_model.specs.Rules.{Setup}
@@ -69,13 +70,13 @@ module _ (su : Setup) (table waiters : List ℕ) where
 -- ---- the counters
 
 abbrev pub MonitorGood : Setup → Monitor → Type 0
-MonitorGood su m = Monitored reg.bandwidthCounter reg.bandwidthCtr (su .na) (su .nm) lastEvent (su .w) m
+MonitorGood su m = Monitored reg.bandwidthCounter reg.bandwidthCtr (su .na) (su .nm) Bandwidth (su .w) m
 
 -- counting bytes keeps them well formed
 pub count-good : (su : Setup) (m : Monitor) → su .w ≤ 62 → MonitorGood su m → (mcid at kind n : ℕ)
     → MonitorGood su (counted (countsRequest (getD (m .events) mcid 0) at kind) m mcid (added (su .w) n))
 count-good su m h k mcid at kind n =
-    monitored-counted reg.bandwidthCounter reg.bandwidthCtr (su .na) (su .nm) lastEvent (su .w) k (countsRequest (getD (m .events) mcid 0) at kind) mcid _
+    monitored-counted reg.bandwidthCounter reg.bandwidthCtr (su .na) (su .nm) Bandwidth (su .w) k (countsRequest (getD (m .events) mcid 0) at kind) mcid _
     (λ t. added-ok (su .w) n (getD (m .counters) mcid 0) h)
 
 pub monitor-served : (su : Setup) (table waiters : List ℕ) (m : Monitor) → su .w ≤ 62 → MonitorGood su m → (n : ℕ) → MonitorGood su (monitorServed su table waiters m n)

@@ -5,7 +5,8 @@ use Prim.Native.Nat.{ℕ, _+_, _-_, _≤_}
 use Rattle.tables.specs.Notation.{if_then_else_, _==_, _≤?_, _<?_, _‼_}
 use Rattle.tables.specs.Below.{anyBelow}
 use Rattle.fields.specs.Registers as reg
-use Rattle.allocation.specs.Allocation.{readLimit, atOf, allocWord, operationStatus, succeeds, tableAfter}
+use Rattle.allocation.specs.Allocation.{atOf, allocWord, operationStatus, succeeds, tableAfter}
+use Rattle.codes.specs.declared.AllocOp.the-variants.{ReadLimit}
 use Rattle.bandwidth_model.specs.Rules.{Setup, rbwbOf, sharedAtOf, useSharedOf, storedForm, isHolder, isSharer, reserved, settledRow}
 use Rattle.bandwidth_model.specs.View.{Ranges}
 use Rattle.bandwidth_model.specs.Model.{Allocation}
@@ -37,7 +38,7 @@ writeRow su sum bw row v =
     let bad = badOperandIn su sum row at bw in
     record {
       ctl = allocWord (su .na) v reg.idle (operationStatus (su .nr) (su .na) bad v);
-      bw = if succeeds (su .nr) (su .na) bad readLimit v then row ‼ at else bw;
+      bw = if succeeds (su .nr) (su .na) bad ReadLimit v then row ‼ at else bw;
       configured = tableAfter (su .nr) (su .na) bad row (settledRow row at (storedForm bw)) v;
     }
 

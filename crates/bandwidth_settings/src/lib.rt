@@ -6,6 +6,8 @@ use allocation::alloc_status;
 use allocation::alloc_word;
 use allocation::control_ok;
 use allocation::held_fields;
+use allocation::reads_limit;
+use allocation::sets_limit;
 use bandwidth_setup::Setup;
 use fields::BwAlloc;
 use tables::Row;
@@ -150,10 +152,10 @@ pub fn write_row(setup: Setup, row: &mut [u32], reserved: u64, bw: u64, v: u64) 
     let status = alloc_status(setup.nr, setup.na, bad, v);
     let at = f.at as usize;
     let old = word32(row, at) as u64;
-    settle_row((f.op == 1) & (status == 1), row, at, stored_word(bw));
+    settle_row(sets_limit(f.op, status), row, at, stored_word(bw));
     Written {
         ctl: alloc_word(f, status),
-        bw: pick((f.op == 2) & (status == 1), old, bw),
+        bw: pick(reads_limit(f.op, status), old, bw),
     }
 }
 

@@ -15,7 +15,7 @@ use Rattle.tables.proofs.Laws.{sum-same, all-at, all-in, all-same}
 use Rattle.access.specs.Pairs.{pair, wordAt}
 use Rattle.access.proofs.Pairs.{pair-inside, pair-of}
 use Rattle.monitor.specs.Monitor.{counterOk, settingOk}
-use Rattle.monitor.specs.Bytes.{lastEvent}
+use Rattle.codes.specs.declared.Resource.the-variants.{Bandwidth}
 use Rattle.bandwidth_model.specs.Rules.{Setup, pairs, rbwbOf, weightOf, sharedAtOf, useSharedOf, isHolder, reserved, total}
 use Rattle.bandwidth_model.specs.Model.{tableOk}
 use Rattle.bandwidth_model.specs.View.{Sized}
@@ -227,7 +227,7 @@ module _ (su : Setup) (active configured used counters events waiters : List ℕ
   pub tables-test : {s u k e w : Bool} → s ≡ (tableOk su active && tableOk su configured)
       → u ≡ allBelow (length used) (λ i. leb (getD used i 0) (rbwbOf (getD active i 0) * su .q))
       → k ≡ allBelow (length counters) (λ i. counterOk reg.bandwidthCounter reg.bandwidthCtr (su .w) (getD counters i 0))
-      → e ≡ allBelow (length events) (λ i. settingOk (su .na) lastEvent (getD events i 0))
+      → e ≡ allBelow (length events) (λ i. settingOk (su .na) Bandwidth (getD events i 0))
       → w ≡ allBelow (length waiters) (λ i. waiterOk su (getD waiters i 0))
       → (s && u && k && e && w) ≡ tablesOk su active configured used counters events waiters
   unfolding tablesOk within

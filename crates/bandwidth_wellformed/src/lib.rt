@@ -6,6 +6,7 @@ mod usage;
 
 use bandwidth_setup::Setup;
 use bandwidth_waiters::waiters_ok;
+use codes::Resource;
 use monitor::bandwidth_counters_ok;
 use monitor::events_ok;
 pub use parts::Span;
@@ -22,9 +23,6 @@ ghost use Prim.Native.Nat.{ℕ};
 ghost use Rattle.bandwidth_model.specs.View.{Ranges, Sized};
 ghost use Rattle.bandwidth_setup.specs.View.{setupOf};
 ghost use Rattle.bandwidth_wellformed.specs.Tables.{SummedTables, TablesChecked};
-
-// The highest EVT_ID that the bandwidth controller knows.
-pub const LAST_EVENT: u16 = 3;
 
 // Whether the tables are well formed, and the blocks that each settings table reserves.
 pub struct TablesOk {
@@ -76,7 +74,7 @@ pub fn tables_ok(
         setup.q as u32,
     );
     let k = bandwidth_counters_ok(counters, setup.w as u32);
-    let e = events_ok(events, setup.na as u16, LAST_EVENT);
+    let e = events_ok(events, setup.na as u16, Resource::Bandwidth);
     let w = waiters_ok(setup, waiters);
     tables_by(setup, sums, k, e, w)
 }

@@ -18,7 +18,8 @@ use Rattle.access.specs.declared.Refusal.{Refusal}
 use Rattle.access.proofs.Access.{halves}
 use Rattle.access.proofs.Refusals.{number-pos}
 use Rattle.monitor.specs.Monitor.{Monitor, cleared, mcidOf, monStatus, monAfter, writeMon, counted}
-use Rattle.monitor.specs.Occupancy.{lastEvent, countsBlock, filled, evicted}
+use Rattle.monitor.specs.Occupancy.{countsBlock, filled, evicted}
+use Rattle.codes.specs.declared.Resource.the-variants.{Capacity}
 use Rattle.monitor.specs.View.{WordsAfter}
 use Rattle.monitor.specs.declared.MonWords.{MonWords}
 use Rattle.monitor.proofs.Steps as monitor
@@ -78,7 +79,7 @@ module _ (s : State) (size offset v : ℕ) where
       let other : offset ≡ 24 → ⊥ = λ h. ⊎-elim (λ (k : offset ≡ 32). omega arith) (λ (k : offset ≡ 36). omega arith) e in
       rw (r, q, inside, ne-eqb offset 24 other) refl
 
-  write-mon-at : (st : ℕ) (m : Monitor) → offset ≡ 8 → Small (monStatus (s .setup .na) (s .setup .nm) lastEvent v) 5 st → m ≡ monAfter (s .setup .na) st (s .monitor) v
+  write-mon-at : (st : ℕ) (m : Monitor) → offset ≡ 8 → Small (monStatus (s .setup .na) (s .setup .nm) Capacity v) 5 st → m ≡ monAfter (s .setup .na) st (s .monitor) v
       → record { setup = s .setup; alloc = s .alloc; monitor = m } ≡ writeAt s size offset v
   unfolding writeAt writeMon
   write-mon-at st m e g q = rw (e, q, g .is) refl
@@ -117,7 +118,7 @@ module _ (s : State) (size offset v mask counter setting : ℕ) (n : WordsIn s v
       → left (s .monitor .ctl) (s .monitor .value) (s .alloc .ctl) m mask counter setting ≡ writeAt s size offset v
   mask-stored w m e q r = rw (masks-kept, counters-kept, events-kept) (write-mask-at s size offset v w m e q r)
 
-  pub mon-stored : (st : ℕ) (x : MonWords) → offset ≡ 8 → Small (monStatus (s .setup .na) (s .setup .nm) lastEvent v) 5 st → WordsAfter (s .setup .na) st (s .monitor .value) counter setting v x
+  pub mon-stored : (st : ℕ) (x : MonWords) → offset ≡ 8 → Small (monStatus (s .setup .na) (s .setup .nm) Capacity v) 5 st → WordsAfter (s .setup .na) st (s .monitor .value) counter setting v x
       → left (x .ctl) (x .value) (s .alloc .ctl) (s .alloc .mask) mask (x .counter) (x .setting) ≡ writeAt s size offset v
   mon-stored st x e g w =
       rw masks-kept

@@ -11,7 +11,7 @@ use Rattle.access.specs.Checks.{first}
 use Rattle.access.specs.Pairs.{pair}
 use Rattle.allocation.specs.Allocation.{rcidOf, atOf}
 use Rattle.monitor.specs.Monitor.{mcidOf, counterOk, settingOk}
-use Rattle.monitor.specs.Occupancy.{lastEvent}
+use Rattle.codes.specs.declared.Resource.the-variants.{Capacity}
 use Rattle.capacity_model.specs.Rules.{Setup, maskOf}
 use Rattle.capacity_model.specs.View.{Ranges, Sized}
 use Rattle.capacity_model.specs.Model.{State, wellFormed, stateChecks}
@@ -38,7 +38,7 @@ pub record TablesTested (su : Setup) (masks counters events : List ℕ) (m k e :
   pub sized : Sized su masks counters events
   pub masks-are : m ≡ allBelow (length masks) (λ i. eqb (getD masks i 0) (maskOf su (getD masks i 0)))
   pub counters-are : k ≡ allBelow (length counters) (λ i. counterOk reg.capacityCounter reg.capacityCtr (su .w) (getD counters i 0))
-  pub events-are : e ≡ allBelow (length events) (λ i. settingOk (su .na) lastEvent (getD events i 0))
+  pub events-are : e ≡ allBelow (length events) (λ i. settingOk (su .na) Capacity (getD events i 0))
 
 -- the counter of an MCID and its setting
 pub record CounterIn (s : State) (mcid counter setting : ℕ) : Type 0 where

@@ -6,6 +6,7 @@ use allocation::control_ok;
 use capacity_masks::Setup;
 use capacity_masks::mask_of;
 use capacity_masks::masks_ok;
+use codes::Resource;
 use monitor::capacity_counters_ok;
 use monitor::events_ok;
 ghost use mathlib.Core.Path.{_≡_};
@@ -18,9 +19,6 @@ ghost use Rattle.capacity_model.specs.Model.{lengthsOk, wellFormed, setupChecks
 ghost use Rattle.capacity_masks.specs.View.{setupOf};
 ghost use Rattle.capacity.specs.View.{state, before};
 ghost use Rattle.capacity.specs.Checked.{TablesTested};
-
-// The highest EVT_ID that the capacity controller knows.
-pub const LAST_EVENT: u16 = 1;
 
 impl Record {
     // Check 2, by a set-up.
@@ -55,7 +53,7 @@ impl Record {
         self.judge(
             masks_ok(setup, masks),
             capacity_counters_ok(counters, setup.w as u32),
-            events_ok(events, setup.na as u16, LAST_EVENT),
+            events_ok(events, setup.na as u16, Resource::Capacity),
         )
     }
 

@@ -8,7 +8,6 @@ use access::Ack;
 use access::Reading;
 use access::Refusal;
 use capacity_masks::Setup;
-pub use check::LAST_EVENT;
 
 // The set-up, and the registers as they read.
 pub struct Record {

@@ -1,9 +1,9 @@
 // Checks 1 to 3.
 use crate::lent::record_refusal;
 use crate::record::load_record;
-use capacity::LAST_EVENT;
 use capacity::Record;
 use capacity_masks::union_ok;
+use codes::Resource;
 use monitor_bytes::capacity_counters_ok;
 use monitor_bytes::events_ok;
 use words::union64;
@@ -24,7 +24,7 @@ fn well_formed(held: Record, masks: &[u8], counters: &[u8], events: &[u8]) -> bo
     held.judge(
         union_ok(setup, union64(masks)),
         capacity_counters_ok(counters, setup.w as u32),
-        events_ok(events, setup.na as u16, LAST_EVENT),
+        events_ok(events, setup.na as u16, Resource::Capacity),
     )
 }
 

@@ -5,6 +5,8 @@ use access::place;
 use allocation::alloc_status;
 use allocation::alloc_word;
 use allocation::held_fields;
+use allocation::reads_limit;
+use allocation::sets_limit;
 use fields::ones;
 pub use setup::Setup;
 use tables::pick;
@@ -89,7 +91,7 @@ pub fn alloc_after(setup: Setup, operand: u64, mask: u64, v: u64) -> AllocWords
     let status = alloc_status(setup.nr, setup.na, operand == 0, v);
     AllocWords {
         ctl: alloc_word(f, status),
-        operand: pick((f.op == 2) & (status == 1), mask, operand),
-        mask: pick((f.op == 1) & (status == 1), operand, mask),
+        operand: pick(reads_limit(f.op, status), mask, operand),
+        mask: pick(sets_limit(f.op, status), operand, mask),
     }
 }

@@ -6,7 +6,7 @@ use Rattle.access.specs.Access as access
 use Rattle.access.specs.Pairs.{wordAt, knownAt}
 use Rattle.allocation.proofs.Operations.{status-rows}
 use Rattle.monitor.specs.Tally.{Tally}
-use Rattle.monitor.specs.Occupancy.{lastEvent}
+use Rattle.codes.specs.declared.Resource.the-variants.{Capacity}
 use Rattle.monitor.proofs.Operations.{monStatus-rows}
 use Rattle.monitor.proofs.Tallies.{tallied-counter}
 use Rattle.runs.specs.Runs.{stepOf}
@@ -61,5 +61,5 @@ counting = record {
 pub register-reads : AllRegisterReads controller book tally
 register-reads = shared.register-reads registered invariants
 
-pub statuses : Statuses lastEvent
-statuses = record { alloc = λ nr na bad v. status-rows nr na bad v; monitor = λ na nm v. monStatus-rows na nm lastEvent v }
+pub statuses : Statuses Capacity
+statuses = record { alloc = λ nr na bad v. status-rows nr na bad v; monitor = λ na nm v. monStatus-rows na nm Capacity v }

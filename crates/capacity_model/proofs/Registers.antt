@@ -6,11 +6,12 @@ use Prim.Native.Nat.{ℕ}
 use Rattle.access.specs.Access as access
 use Rattle.access.specs.Checks.{isReset, onWrite}
 use Rattle.access.specs.Pairs.{Setting}
-use Rattle.allocation.specs.Allocation.{configLimit, allocWord, tableAfter}
+use Rattle.allocation.specs.Allocation.{allocWord, tableAfter}
 use Rattle.allocation.proofs.Operations.{done-pair}
 use Rattle.monitor.specs.Monitor.{cleared, writeMon, monWord}
 use Rattle.monitor.specs.Tally.{Tally}
-use Rattle.monitor.specs.Occupancy.{lastEvent}
+use Rattle.codes.specs.declared.Resource.the-variants.{Capacity}
+use Rattle.codes.specs.declared.AllocOp.the-variants.{ConfigLimit}
 use Rattle.runs.specs.Claims.{controlAfter}
 use Rattle.runs.proofs.Settings as shared
 use Rattle.runs.proofs.Settings.{storing, anew, none, sets-if, Settings}
@@ -32,7 +33,7 @@ parts = record {
   nr = λ su. su .nr;
   na = λ su. su .na;
   nm = λ su. su .nm;
-  last = lastEvent;
+  resource = Capacity;
   table = λ s. s .alloc .masks;
   bad = λ s v. badMask (s .alloc .mask);
   registers = registers;
@@ -78,11 +79,11 @@ unfolding settingsBy writeAlloc writeMask tableAfter
 sets-call s =
     let su = s .setup in
     let mask = s .alloc .mask in
-    let made : ℕ → Bool → List (Setting ℕ) = λ v x. cond (x && allocSucceeds su mask configLimit v) (limitOf su mask v ∷ []) [] in
+    let made : ℕ → Bool → List (Setting ℕ) = λ v x. cond (x && allocSucceeds su mask ConfigLimit v) (limitOf su mask v ∷ []) [] in
     call-by s (λ k s′. Sets s s′ (onWrite k (λ size offset v. made v (access.writesLow offset access.allocCtl)) []) (isReset k)) (λ u. anew)
     (λ size offset v. write-by s (λ x y z t. Sets s t (made v x) false) size offset v
-    (sets-if _ _ _ s _ (limitOf su mask v) (allocSucceeds su mask configLimit v) refl refl
-    (λ d. let ok = done-pair (su .nr) (su .na) (badMask mask) v configLimit d in (ok .rcid-low, ok .at-low)))
+    (sets-if _ _ _ s _ (limitOf su mask v) (allocSucceeds su mask ConfigLimit v) refl refl
+    (λ d. let ok = done-pair (su .nr) (su .na) (badMask mask) v ConfigLimit d in (ok .rcid-low, ok .at-low)))
     (none refl refl) (none refl refl) (none refl refl))
     (λ s′ k. none (k .setup) (ap (λ (a : Allocation). a .masks) (k .alloc)))
 

@@ -6,7 +6,7 @@ use Rattle.access.specs.Access as access
 use Rattle.access.specs.Checks as checks
 use Rattle.access.specs.Pairs.{wordAt, knownAt}
 use Rattle.monitor.specs.Monitor.{monStatus}
-use Rattle.monitor.specs.Occupancy.{lastEvent}
+use Rattle.codes.specs.declared.Resource.the-variants.{Capacity}
 use Rattle.capacity_model.specs.Rules.{Setup, hasBlock, allocStatus}
 use Rattle.capacity_model.specs.Calls.{Call, kindOf, reset, read, write, fill, Answer, refused, value, allowed}
 use Rattle.capacity_model.specs.Model.{State, setupChecks, argumentChecks, capabilities, refusal, perform}
@@ -39,7 +39,7 @@ book = record {
   operand = λ l. l .mask;
   checksBy = λ l c. argumentChecks (l .setup) c;
   statusBy = λ l v. allocStatus (l .setup) (l .mask) v;
-  monStatusBy = λ l v. monStatus (l .setup .na) (l .setup .nm) lastEvent v;
+  monStatusBy = λ l v. monStatus (l .setup .na) (l .setup .nm) Capacity v;
   settingsBy = settingsBy;
   valueAt = λ l s. wordAt (l .setup .na) (s .alloc .masks);
   wordOf = λ mask. mask;

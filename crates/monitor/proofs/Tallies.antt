@@ -3,10 +3,11 @@ use mathlib.Core.Path.{_≡_, refl, sym, ap, ap₂, _∙_}
 use mathlib.Core.Bool.{Bool, true, false, not, cond, _&&_}
 use mathlib.Core.List.{List, [], _∷_, map}
 use Prim.Native.Nat.{ℕ, zero, suc}
-use lib.Dec.{eqb}
 use lib.ListN.{getD, set, replicate, List·getD-map}
 use Rattle.tables.proofs.Laws.{at-set}
-use Rattle.monitor.specs.Monitor.{Monitor, cleared, configEvent, mcidOf, eventOf, monSucceeds, writeMon, counted}
+use Rattle.codes.specs.Codes.{_has_, noEvent}
+use Rattle.codes.specs.declared.MonOp.the-variants.{ConfigEvent}
+use Rattle.monitor.specs.Monitor.{Monitor, cleared, mcidOf, eventOf, monSucceeds, writeMon, counted}
 use Rattle.monitor.specs.Tally.{Counter, Tally, tallyStart, tallyMon, tallied}
 
 module _ {K : Type 0} (f : K → ℕ) where
@@ -68,10 +69,10 @@ module _ {U K : Type 0} (r : Counter U K) (Fits : U → K → Type 0) (u : U) (z
     pub tallied-counter : (i : ℕ) → getD (m .counters) i 0 ≡ r .word (t .setup) (getD (t .counts) i (r .none))
     tallied-counter i = rw (k .same) (counter-in i)
 
-    pub tallied-write : (v : ℕ) → Tallied r Fits u (writeMon (r .na u) (r .nm u) (r .last) m v) (tallyMon r t v)
+    pub tallied-write : (v : ℕ) → Tallied r Fits u (writeMon (r .na u) (r .nm u) (r .resource) m v) (tallyMon r t v)
     unfolding writeMon monSucceeds tallyMon
     tallied-write v =
-        let starts = monSucceeds (r .na u) (r .nm u) (r .last) configEvent v && not (eqb (eventOf v) 0) in
+        let starts = monSucceeds (r .na u) (r .nm u) (r .resource) ConfigEvent v && not (noEvent has eventOf v) in
         record {
           counts = cond starts (set (k .counts) (mcidOf v) (r .none)) (k .counts);
           same = rw (k .same, counter-in (mcidOf v)) refl;

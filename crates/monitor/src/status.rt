@@ -1,20 +1,24 @@
-// The STATUS of the operations of mon_ctl, by the first condition that applies.
+// EVT_ID and OP of mon_ctl by the rows of their tables: the STATUS by the first condition that applies, and what the operation is.
 use crate::unpack_held;
+use codes::BandwidthEvent;
+use codes::CapacityEvent;
+use codes::MonOp;
+use codes::bandwidth_event;
+use codes::capacity_event;
+use codes::mon_op;
 use fields::MonCtl;
 use tables::pick;
 ghost use mathlib.Core.Path.{_≡_};
-ghost use mathlib.Core.Bool.{not, cond, _&&_};
+ghost use mathlib.Core.Bool.{cond, _&&_};
 ghost use mathlib.Core.List.{[], _∷_};
+ghost use Prim.Native.Nat.{_<_};
 ghost use lib.Dec.{leb, eqb};
 ghost use Rattle.tables.specs.View.{Small};
 ghost use Rattle.access.specs.Checks.{_gives_, first};
-ghost use Rattle.monitor.specs.Monitor.{configEvent, validOp, knownEvent, monStatus};
-ghost use Rattle.monitor.specs.Bytes as bytes;
-ghost use Rattle.monitor.specs.Occupancy as occupancy;
-
-const CONFIG_EVENT: u64 = 1;
-
-const READ_COUNTER: u64 = 2;
+ghost use Rattle.codes.specs.Codes.{_has_, monOps};
+ghost use Rattle.codes.specs.declared.Resource.the-variants as resource;
+ghost use Rattle.codes.specs.declared.MonOp.the-variants as row;
+ghost use Rattle.monitor.specs.Monitor.{invalidOp, unknownEvent, monStatus};
 
 // The STATUS of CONFIG_EVENT by ATV and AT.
 fn at_status(na: u64, ctl: MonCtl) -> u64
@@ -23,62 +27,97 @@ fn at_status(na: u64, ctl: MonCtl) -> u64
     pick((ctl.atv == 1) & (na <= ctl.at), 5, 1)
 }
 
-// The STATUS of CONFIG_EVENT by EVT_ID in the bandwidth controller, `otherwise` where it is known: 0 none, 1 all bytes, 2 reads, 3 writes.
-// 128 to 255 is the custom range.
-fn bandwidth_event(event: u64, otherwise: u64) -> u64
-    ensures { λ r. ⌜ r ≡ first ((not (knownEvent bytes.lastEvent event) gives 4) ∷ []) otherwise ⌝ }
+// The STATUS of CONFIG_EVENT by EVT_ID in the bandwidth controller, `otherwise` where it is known.
+fn bandwidth_event_status(event: u64, otherwise: u64) -> u64
+    requires { ⌜ event < 256 ⌝ }
+    ensures { λ r. ⌜ r ≡ first ((unknownEvent resource.Bandwidth event gives 4) ∷ []) otherwise ⌝ }
 {
-    match event {
-        0 => otherwise,
-        1 => otherwise,
-        2 => otherwise,
-        3 => otherwise,
-        4..=127 => 4,
-        128..=255 => 4,
-        _ => 4,
+    match bandwidth_event(event) {
+        BandwidthEvent::None => otherwise,
+        BandwidthEvent::TotalReadWrite => otherwise,
+        BandwidthEvent::TotalRead => otherwise,
+        BandwidthEvent::TotalWrite => otherwise,
+        BandwidthEvent::Reserved => 4,
+        BandwidthEvent::Custom => 4,
     }
 }
 
-// The same in the capacity controller: 0 none, 1 occupancy.
-fn capacity_event(event: u64, otherwise: u64) -> u64
-    ensures { λ r. ⌜ r ≡ first ((not (knownEvent occupancy.lastEvent event) gives 4) ∷ []) otherwise ⌝ }
+// The same in the capacity controller.
+fn capacity_event_status(event: u64, otherwise: u64) -> u64
+    requires { ⌜ event < 256 ⌝ }
+    ensures { λ r. ⌜ r ≡ first ((unknownEvent resource.Capacity event gives 4) ∷ []) otherwise ⌝ }
 {
-    match event {
-        0 => otherwise,
-        1 => otherwise,
-        2..=127 => 4,
-        128..=255 => 4,
-        _ => 4,
+    match capacity_event(event) {
+        CapacityEvent::None => otherwise,
+        CapacityEvent::Occupancy => otherwise,
+        CapacityEvent::Reserved => 4,
+        CapacityEvent::Custom => 4,
     }
 }
 
 // The STATUS by OP and MCID; `event` is the one by EVT_ID, ATV and AT, which count for CONFIG_EVENT alone.
 fn mon_status(nm: u64, ctl: MonCtl, event: u64) -> u64
-    ensures { λ r. ⌜ r ≡ first ((not (validOp (ctl .op)) gives 2) ∷ (leb nm (ctl .mcid) gives 3) ∷ []) (cond (eqb (ctl .op) configEvent) event 1) ⌝ }
+    requires { ⌜ ctl .op < 32 ⌝ }
+    ensures { λ r. ⌜ r ≡ first ((invalidOp (ctl .op) gives 2) ∷ (leb nm (ctl .mcid) gives 3) ∷ []) (cond (monOps row.ConfigEvent has ctl .op) event 1) ⌝ }
 {
     let absent = nm <= ctl.mcid;
-    let op = ctl.op;
-    match op {
-        0 => 2,
-        CONFIG_EVENT => pick(absent, 3, event),
-        READ_COUNTER => pick(absent, 3, 1),
-        3..=31 => 2,
-        _ => 2,
+    match mon_op(ctl.op) {
+        MonOp::ReservedZero => 2,
+        MonOp::ConfigEvent => pick(absent, 3, event),
+        MonOp::ReadCounter => pick(absent, 3, 1),
+        MonOp::Reserved => 2,
+        MonOp::Custom => 2,
     }
 }
 
 // The STATUS of a value written to mon_ctl of the bandwidth controller.
 pub fn bandwidth_status(na: u64, nm: u64, v: u64) -> u64
-    ensures { λ r. ⌜ Small (monStatus na nm bytes.lastEvent v) 5 r ⌝ }
+    ensures { λ r. ⌜ Small (monStatus na nm resource.Bandwidth v) 5 r ⌝ }
 {
     let ctl = unpack_held(na, v);
-    mon_status(nm, ctl, bandwidth_event(ctl.evtid, at_status(na, ctl)))
+    mon_status(
+        nm,
+        ctl,
+        bandwidth_event_status(ctl.evtid, at_status(na, ctl)),
+    )
 }
 
 // The STATUS of a value written to mon_ctl of the capacity controller.
 pub fn capacity_status(na: u64, nm: u64, v: u64) -> u64
-    ensures { λ r. ⌜ Small (monStatus na nm occupancy.lastEvent v) 5 r ⌝ }
+    ensures { λ r. ⌜ Small (monStatus na nm resource.Capacity v) 5 r ⌝ }
 {
     let ctl = unpack_held(na, v);
-    mon_status(nm, ctl, capacity_event(ctl.evtid, at_status(na, ctl)))
+    mon_status(
+        nm,
+        ctl,
+        capacity_event_status(ctl.evtid, at_status(na, ctl)),
+    )
+}
+
+// Whether the operation is CONFIG_EVENT and ended with STATUS 1.
+pub fn configures(op: u64, status: u64) -> bool
+    requires { ⌜ op < 32 ⌝ }
+    ensures { λ r. ⌜ r ≡ (monOps row.ConfigEvent has op && eqb status 1) ⌝ }
+{
+    match mon_op(op) {
+        MonOp::ReservedZero => false,
+        MonOp::ConfigEvent => status == 1,
+        MonOp::ReadCounter => false,
+        MonOp::Reserved => false,
+        MonOp::Custom => false,
+    }
+}
+
+// Whether the operation is READ_COUNTER and ended with STATUS 1.
+pub fn reads(op: u64, status: u64) -> bool
+    requires { ⌜ op < 32 ⌝ }
+    ensures { λ r. ⌜ r ≡ (monOps row.ReadCounter has op && eqb status 1) ⌝ }
+{
+    match mon_op(op) {
+        MonOp::ReservedZero => false,
+        MonOp::ConfigEvent => false,
+        MonOp::ReadCounter => status == 1,
+        MonOp::Reserved => false,
+        MonOp::Custom => false,
+    }
 }

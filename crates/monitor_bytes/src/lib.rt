@@ -1,4 +1,5 @@
 // Monitoring where counters and their settings are lent as little-endian bytes: the operations of `monitor` on words that are loaded and stored.
+use codes::Resource;
 use monitor::Registers;
 use monitor::bandwidth_union_ok;
 use monitor::capacity_union_ok;
@@ -50,26 +51,26 @@ fn part_length(i: usize, words: usize) -> usize
 }
 
 // Whether n counter settings from `from` on are well formed.
-fn part_ok(t: &[u8], from: usize, n: usize, na: u16, last: u16) -> bool
+fn part_ok(t: &[u8], from: usize, n: usize, na: u16, resource: Resource) -> bool
     requires { ⌜ (na ≤ 8) × ((n ≤ 64) × ((from + n) * 2 ≤ length (now t))) ⌝ }
-    ensures { λ r. ⌜ r ≡ allBelow n (λ i. settingOk na last (getD (part from n (tableOf 2 (now (t .entry)))) i 0)) ⌝ }
+    ensures { λ r. ⌜ r ≡ allBelow n (λ i. settingOk na resource (getD (part from n (tableOf 2 (now (t .entry)))) i 0)) ⌝ }
 {
     let mut settings = [0u16; 64];
     load_part16(t, from, &mut settings[..n]);
-    monitor::events_ok(&settings[..n], na, last)
+    monitor::events_ok(&settings[..n], na, resource)
 }
 
 // Whether every counter setting is well formed.
-pub fn events_ok(t: &[u8], na: u16, last: u16) -> bool
+pub fn events_ok(t: &[u8], na: u16, resource: Resource) -> bool
     requires { ⌜ na ≤ 8 ⌝ }
-    ensures { λ r. ⌜ r ≡ allBelow (length (tableOf 2 (now (t .entry)))) (λ i. settingOk na last (getD (tableOf 2 (now (t .entry))) i 0)) ⌝ }
+    ensures { λ r. ⌜ r ≡ allBelow (length (tableOf 2 (now (t .entry)))) (λ i. settingOk na resource (getD (tableOf 2 (now (t .entry))) i 0)) ⌝ }
 {
     let words = t.len() / 2;
     let mut ok = true;
     let mut i = 0usize;
     while i < words {
         let n = part_length(i, words);
-        ok = ok & part_ok(t, i, n, na, last);
+        ok = ok & part_ok(t, i, n, na, resource);
         i = i + n;
     }
     ok

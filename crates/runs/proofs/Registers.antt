@@ -10,7 +10,9 @@ use Rattle.tables.proofs.Tests.{cases, cond-yes}
 use Rattle.access.specs.Checks.{Kind, resets, writes, other}
 use Rattle.access.specs.Access as access
 use Rattle.access.specs.Pairs.{wordAt, Setting}
-use Rattle.allocation.specs.Allocation.{configLimit, readLimit, opOf, rcidOf, atOf, allocWord, operationStatus, succeeds, operandAfter}
+use Rattle.allocation.specs.Allocation.{performs, rcidOf, atOf, allocWord, operationStatus, succeeds, operandAfter}
+use Rattle.codes.specs.declared.Resource.{Resource}
+use Rattle.codes.specs.declared.AllocOp.the-variants.{ConfigLimit, ReadLimit}
 use Rattle.allocation.proofs.Operations.{read-done}
 use Rattle.allocation.proofs.Read.{read-fields, read-sets}
 use Rattle.monitor.specs.Monitor.{monWord, monStatus}
@@ -29,7 +31,7 @@ pub record Parts (S U : Type 0) : Type 0 where
   pub nr : U → ℕ
   pub na : U → ℕ
   pub nm : U → ℕ
-  pub last : ℕ
+  pub resource : Resource
   pub table : S → List ℕ
   pub bad : S → ℕ → Bool
   pub registers : S → access.RegisterFile
@@ -39,7 +41,7 @@ module _ {S U : Type 0} (q : Parts S U) (s : S) (v : ℕ) where
   statusIn = operationStatus (q .nr (q .setup s)) (q .na (q .setup s)) (q .bad s v) v
 
   abbrev pub monStatusIn : ℕ
-  monStatusIn = monStatus (q .na (q .setup s)) (q .nm (q .setup s)) (q .last) v
+  monStatusIn = monStatus (q .na (q .setup s)) (q .nm (q .setup s)) (q .resource) v
 
 -- what the calls of a controller do to its registers
 pub record Registered {S U C A : Type 0} (m : Machine S U C A) (q : Parts S U) : Type 0 where
@@ -66,7 +68,7 @@ pub record Agrees {S U C A L X : Type 0} (m : Machine S U C A) (q : Parts S U) (
   pub value : X
   pub sets : (size v : ℕ)
       → b .settingsBy l (m .write size 24 v)
-      ≡ cond (succeeds (q .nr (q .setup s)) (q .na (q .setup s)) (q .bad s v) configLimit v) (record { rcid = rcidOf v; at = atOf (q .na (q .setup s)) v; value = value } ∷ []) []
+      ≡ cond (succeeds (q .nr (q .setup s)) (q .na (q .setup s)) (q .bad s v) ConfigLimit v) (record { rcid = rcidOf v; at = atOf (q .na (q .setup s)) v; value = value } ∷ []) []
 
 -- ---- one call
 
@@ -96,7 +98,7 @@ module _ {S U C A : Type 0} {m : Machine S U C A} {q : Parts S U} (h : Registere
         ∙ h .mon s (m .write size 8 v) ∙ rw (h .writes-kind size 8 v) refl
 
     -- READ_LIMIT copies the word of a pair that is there
-    read-word : (rcid at : ℕ) → rcid < q .nr (q .setup s) → at < q .na (q .setup s) → opOf v ≡ readLimit → rcidOf v ≡ rcid
+    read-word : (rcid at : ℕ) → rcid < q .nr (q .setup s) → at < q .na (q .setup s) → T (performs ReadLimit v) → rcidOf v ≡ rcid
         → atOf (q .na (q .setup s)) v ≡ at → T (m .accepted (stepOf m s (m .write size 24 v) .answer))
         → q .registers (stepOf m s (m .write size 24 v) .state) .operand ≡ wordAt (q .na (q .setup s)) (q .table s) rcid at
     unfolding operandAfter
@@ -105,7 +107,7 @@ module _ {S U C A : Type 0} {m : Machine S U C A} {q : Parts S U} (h : Registere
         let na = q .na (q .setup s) in
         let d = read-done nr na (q .bad s v) v o (record { rcid-low = rw er lr; at-low = rw ea la }) in
         ap (λ (x : Outcome S A). q .registers (x .state) .operand) (done-step (h .accepting) s (m .write size 24 v) t)
-        ∙ h .operand s size v ∙ cond-yes (succeeds nr na (q .bad s v) readLimit v) _ (q .registers s .operand) d ∙ rw (er, ea) refl
+        ∙ h .operand s size v ∙ cond-yes (succeeds nr na (q .bad s v) ReadLimit v) _ (q .registers s .operand) d ∙ rw (er, ea) refl
 
 -- ---- settings
 
@@ -193,7 +195,7 @@ module _ {S U C A L X K : Type 0} {m : Machine S U C A} {q : Parts S U} {b : Boo
             rw (g .na, cond-yes (m .accepted (stepOf m s (m .write size 24 v) .answer)) (b .settingsBy l (m .write size 24 v)) [] (e .written), g .sets size v)
             (read-sets nr na (q .bad s v) v x (shown-alloc h s size v x e) (g .value));
         mon = λ size v x e.
-            rw (g .na, g .mon v) (ap (unpack monCtl) (shown-mon h s size v x e) ∙ monWord-fields na v (monStatusIn q s v) (monStatus-lt na (q .nm (q .setup s)) (q .last) v));
+            rw (g .na, g .mon v) (ap (unpack monCtl) (shown-mon h s size v x e) ∙ monWord-fields na v (monStatusIn q s v) (monStatus-lt na (q .nm (q .setup s)) (q .resource) v));
       }
 
   -- notes kept beside others are those kept alone

@@ -7,7 +7,10 @@ use Rattle.access.specs.Refusals.{numberOf}
 use Rattle.access.specs.Checks.{Check, first, Kind, resets, writes, other, isReset, Rows}
 use Rattle.access.specs.Access as access
 use Rattle.access.specs.Pairs.{Setting, ofPair, anyOf}
-use Rattle.allocation.specs.Allocation.{configLimit, readLimit, opOf, rcidOf, atOf, statusOf, allocWord, validOp, operationStatus}
+use Rattle.allocation.specs.Allocation.{opOf, rcidOf, atOf, statusOf, allocWord, invalidOp, performs, operationStatus}
+use Rattle.codes.specs.declared.Resource.{Resource}
+use Rattle.codes.specs.declared.AllocOp.the-variants.{ConfigLimit, ReadLimit}
+use Rattle.codes.specs.declared.MonOp.the-variants.{ConfigEvent}
 use Rattle.monitor.specs.Monitor as mon
 use Rattle.monitor.specs.Tally.{Counter, Tally}
 use Rattle.runs.specs.Runs.{Event, event, after, events, untouched, Keeper, TallyKeeper, Machine, stepOf, noteOf, noteAfter, Always}
@@ -136,7 +139,7 @@ module _ {S U C A L X : Type 0} (m : Machine S U C A) (b : Book S U C A L X) whe
           → part .of (b .valueAt l (after (stepOf m) s (c ∷ between)) (p .rcid) (p .at)) ≡ part .of (p .value)
       -- and it reads back through a READ_LIMIT and a read of bw_alloc or block_mask
       pub readBack : (c : C) (between : List C) (p : Setting X) (size v : ℕ) → Stands s l c between p
-          → opOf v ≡ readLimit → rcidOf v ≡ p .rcid → atOf (b .na l) v ≡ p .at
+          → T (performs ReadLimit v) → rcidOf v ≡ p .rcid → atOf (b .na l) v ≡ p .at
           → T (m .accepted (stepOf m (after (stepOf m) s (c ∷ between)) (m .write size (8 * access.allocCtl) v) .answer))
           → ReadsPart part (stepOf m (after (stepOf m) s (c ∷ between)) (m .write size (8 * access.allocCtl) v) .state) (p .value)
 
@@ -156,7 +159,7 @@ module _ {S U C A L X : Type 0} (m : Machine S U C A) (b : Book S U C A L X) whe
     -- the ledger takes the write for a setting of its pair exactly where CONFIG_LIMIT with STATUS 1 is read
     pub set : (size v x : ℕ) → Shows m s access.allocCtl size v x
         → T (anyOf (ofPair (rcidOf x) (atOf (b .na (n .ledger)) x)) (settings (n .ledger) (event (stepOf m) s (m .write size (8 * access.allocCtl) v))))
-        ↔ ((opOf x ≡ configLimit) × (statusOf x ≡ 1))
+        ↔ (T (performs ConfigLimit x) × (statusOf x ≡ 1))
     -- mon_ctl, read after an operation: BUSY 0, its STATUS and the fields written
     pub mon : (size v x : ℕ) → Shows m s access.monCtl size v x
         → unpack reg.monCtl x ≡ reg.idle ∷ b .monStatusBy (n .ledger) v ∷ mon.atvOf (b .na (n .ledger)) v ∷ mon.eventOf v ∷ mon.mcidOf v
@@ -171,10 +174,10 @@ module _ {S U C A L X : Type 0} (m : Machine S U C A) (b : Book S U C A L X) whe
   pub record AllCounted {K : Type 0} (t : TallyKeeper U C A L (Tally U K)) (r : Counter U K) (table : S → List ℕ) : Type 0 where
     pub always : Always m (notes t) (λ s n. Counted m r table s (n .tally))
 
--- ---- STATUS: each under its own condition and no other, where the events of a controller end at last
-pub record Statuses (last : ℕ) : Type 0 where
+-- ---- STATUS: each under its own condition and no other
+pub record Statuses (resource : Resource) : Type 0 where
   pub alloc : (nr na : ℕ) (bad : Bool) (v : ℕ)
-      → Rows (not (validOp (opOf v))) (nr ≤? rcidOf v) (na ≤? atOf na v) (opOf v == configLimit && bad) (operationStatus nr na bad v)
+      → Rows (invalidOp (opOf v)) (nr ≤? rcidOf v) (na ≤? atOf na v) (performs ConfigLimit v && bad) (operationStatus nr na bad v)
   pub monitor : (na nm v : ℕ)
-      → Rows (not (mon.validOp (mon.opOf v))) (nm ≤? mon.mcidOf v) (mon.opOf v == mon.configEvent && not (mon.knownEvent last (mon.eventOf v)))
-      (mon.opOf v == mon.configEvent && mon.atvOf na v == 1 && na ≤? mon.atOf na v) (mon.monStatus na nm last v)
+      → Rows (mon.invalidOp (mon.opOf v)) (nm ≤? mon.mcidOf v) (mon.performs ConfigEvent v && mon.unknownEvent resource (mon.eventOf v))
+      (mon.performs ConfigEvent v && mon.atvOf na v == 1 && na ≤? mon.atOf na v) (mon.monStatus na nm resource v)

@@ -23,7 +23,7 @@ slice-aggregate-events-ok c = let p = c .before .before .before .before .before 
 returns : tie.Need-returns
 returns c =
     let s = c .before .before .before .before .before .before in
-    front-test 2 _ _ _ _ _ (lit< tt) (s .pre .1 .0) (s .pre .1 .1) (c .before .before .before .load-part16 .ensures) (settingOk (s .args .na) (s .args .last)) _ (c .events-ok .ensures)
+    front-test 2 _ _ _ _ _ (lit< tt) (s .pre .1 .0) (s .pre .1 .1) (c .before .before .before .load-part16 .ensures) (settingOk (s .args .na) (s .args .resource)) _ (c .events-ok .ensures)
 
 pub part-ok-spec : {M : Type 1} → statement M
 part-ok-spec =

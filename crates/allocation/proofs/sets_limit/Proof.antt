@@ -1,0 +1,25 @@
+-- `allocation::sets_limit` meets its contract.
+use borrow.Author.Needs.{needs}
+use Rattle.tables.specs.Below.{between}
+use Rattle.codes.specs.Codes.{_has_, allocOps}
+use Rattle.codes.specs.declared.AllocOp.the-variants.{ReservedZero, ConfigLimit, ReadLimit, Reserved, Custom}
+use Rattle.codes.proofs.Rows.{code-of, found, reserved-op, custom-op}
+use Rattle.allocation.proofs.sets_limit.Statement.{statement}
+use Rattle.allocation.proofs.sets_limit.Tie as tie
+
+pub sets-limit-spec : {M : Type 1} → statement M
+unfolding allocOps _has_ between
+sets-limit-spec =
+    tie.close
+    (tie.spec
+    (λ c κs. search needs)
+    (λ c. search needs)
+    (λ c. search needs)
+    (λ c. search needs)
+    (λ c. search needs)
+    (λ c. search needs)
+    (λ c. rw (code-of 0 (c .before .before .before .args .op) (found allocOps ReservedZero _ (c .enum-told .given .1) (c .before .before .alloc-op .ensures))))
+    (λ c. rw (code-of 1 (c .before .before .before .args .op) (found allocOps ConfigLimit _ (c .enum-told2 .given .1) (c .before .before .alloc-op .ensures))))
+    (λ c. rw (code-of 2 (c .before .before .before .args .op) (found allocOps ReadLimit _ (c .enum-told3 .given .1) (c .before .before .alloc-op .ensures))))
+    (λ c. rw (reserved-op _ (found allocOps Reserved _ (c .enum-told4 .given .1) (c .before .before .alloc-op .ensures)) .not1))
+    (λ c. rw (custom-op _ (found allocOps Custom _ (c .enum-told5 .given .1) (c .before .before .alloc-op .ensures)) .not1)))

@@ -1,0 +1,61 @@
+-- The standard's tables of operation and event codes: each row is a case of an enum, with its first and its last code (rules O1, M1 and M3).
+use mathlib.Core.Bool.{Bool}
+use Prim.Native.Nat.{ℕ}
+use Rattle.tables.specs.Below.{between}
+use Rattle.codes.specs.declared.AllocOp.{AllocOp}
+use Rattle.codes.specs.declared.AllocOp.the-variants as alloc
+use Rattle.codes.specs.declared.MonOp.{MonOp}
+use Rattle.codes.specs.declared.MonOp.the-variants as mon
+use Rattle.codes.specs.declared.BandwidthEvent.{BandwidthEvent}
+use Rattle.codes.specs.declared.BandwidthEvent.the-variants as bandwidth
+use Rattle.codes.specs.declared.CapacityEvent.{CapacityEvent}
+use Rattle.codes.specs.declared.CapacityEvent.the-variants as capacity
+
+-- the codes of a row
+pub record Codes : Type 0 where
+  pub first : ℕ
+  pub last : ℕ
+
+infix 60 _to_
+abbrev pub _to_ : ℕ → ℕ → Codes
+_to_ a b = record { first = a; last = b }
+
+infix 50 _has_
+unfoldable pub _has_ : Codes → ℕ → Bool
+_has_ row code = between (row .first) code (row .last)
+
+-- OP of alloc_ctl in both controllers: Table 6, where 3 is reserved here too, and Table 12
+unfoldable pub allocOps : AllocOp → Codes
+allocOps alloc.ReservedZero = 0 to 0
+allocOps alloc.ConfigLimit = 1 to 1
+allocOps alloc.ReadLimit = 2 to 2
+allocOps alloc.Reserved = 3 to 23
+allocOps alloc.Custom = 24 to 31
+
+-- OP of mon_ctl in both controllers: Tables 3 and 9
+unfoldable pub monOps : MonOp → Codes
+monOps mon.ReservedZero = 0 to 0
+monOps mon.ConfigEvent = 1 to 1
+monOps mon.ReadCounter = 2 to 2
+monOps mon.Reserved = 3 to 23
+monOps mon.Custom = 24 to 31
+
+-- event None, the same row in both tables of EVT_ID
+abbrev pub noEvent : Codes
+noEvent = 0 to 0
+
+-- EVT_ID of the bandwidth controller: Table 10; the source's custom range 128-256 is read as 128 to 255
+unfoldable pub bandwidthEvents : BandwidthEvent → Codes
+bandwidthEvents bandwidth.None = noEvent
+bandwidthEvents bandwidth.TotalReadWrite = 1 to 1
+bandwidthEvents bandwidth.TotalRead = 2 to 2
+bandwidthEvents bandwidth.TotalWrite = 3 to 3
+bandwidthEvents bandwidth.Reserved = 4 to 127
+bandwidthEvents bandwidth.Custom = 128 to 255
+
+-- EVT_ID of the capacity controller: Table 4, with the custom range as above
+unfoldable pub capacityEvents : CapacityEvent → Codes
+capacityEvents capacity.None = noEvent
+capacityEvents capacity.Occupancy = 1 to 1
+capacityEvents capacity.Reserved = 2 to 127
+capacityEvents capacity.Custom = 128 to 255

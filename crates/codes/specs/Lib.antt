@@ -1,0 +1,3 @@
+-- Claims states what is shown of the tables.
+pub mod Codes
+pub mod Claims
