@@ -190,11 +190,11 @@
 #include <stdint.h>
 
 /* The version of this header and of the library beside it (CHANGELOG.md).
- * CBQRI_VERSION is one number, to be compared: 6000 for 0.6.0. */
+ * CBQRI_VERSION is one number, to be compared: 6001 for 0.6.1. */
 #define CBQRI_VERSION_MAJOR 0
 #define CBQRI_VERSION_MINOR 6
-#define CBQRI_VERSION_PATCH 0
-#define CBQRI_VERSION_STRING "0.6.0"
+#define CBQRI_VERSION_PATCH 1
+#define CBQRI_VERSION_STRING "0.6.1"
 #define CBQRI_VERSION                                                                     \
     (CBQRI_VERSION_MAJOR * 1000000 + CBQRI_VERSION_MINOR * 1000 + CBQRI_VERSION_PATCH)
 

@@ -3,7 +3,7 @@ use mathlib.Core.Path.{_≡_, refl, sym, ap, _∙_}
 use mathlib.Core.Bool.{Bool}
 use Prim.Native.Nat.{ℕ}
 use Rattle.access.specs.Access as access
-use Rattle.access.specs.Pairs.{wordAt, knownAt}
+use Rattle.access.specs.Pairs.{wordAt, knownAt, withSetting}
 use Rattle.allocation.proofs.Operations.{status-rows}
 use Rattle.monitor.specs.Tally.{Tally}
 use Rattle.codes.specs.declared.Resource.the-variants.{Capacity}
@@ -14,11 +14,12 @@ use Rattle.runs.specs.Claims.{Counted, Answering, AllRegisterReads, Statuses}
 use Rattle.runs.proofs.Checks.{reset-decided, answered}
 use Rattle.runs.proofs.Settings.{whole-lasts}
 use Rattle.runs.proofs.Registers as shared
-use Rattle.capacity_model.specs.Rules.{Setup, hasBlock}
+use Rattle.runs.proofs.Numbers.{by-number}
+use Rattle.capacity_model.specs.Rules.{Setup, hasBlock, badMask, limitOf}
 use Rattle.capacity_model.specs.Calls.{fill, allowed}
-use Rattle.capacity_model.specs.Model.{State, fillAllowed}
+use Rattle.capacity_model.specs.Model.{State, writeAlloc, fillAllowed}
 use Rattle.capacity_model.specs.Ledger.{Ledger, Count, counter, tally}
-use Rattle.capacity_model.specs.Claim.{controller, book, Claim, Claims, Counting}
+use Rattle.capacity_model.specs.Claim.{controller, book, Claim, Claims, Counting, AllocByNumber}
 use Rattle.capacity_model.proofs.Steps.{accepting, checking, allowed-is}
 use Rattle.capacity_model.proofs.Invariant.{Inv}
 use Rattle.capacity_model.proofs.Answers.{good-passes}
@@ -63,3 +64,7 @@ register-reads = shared.register-reads registered invariants
 
 pub statuses : Statuses Capacity
 statuses = record { alloc = λ nr na bad v. status-rows nr na bad v; monitor = λ na nm v. monStatus-rows na nm Capacity v }
+
+pub alloc-by-number : AllocByNumber
+unfolding writeAlloc
+alloc-by-number su mask masks v = rw (by-number .status (su .nr) (su .na) (badMask mask) v, by-number .table (su .nr) (su .na) (badMask mask) masks (withSetting (su .na) masks (limitOf su mask v)) v, by-number .operand (su .nr) (su .na) (badMask mask) masks mask v) refl

@@ -1,15 +1,18 @@
 -- What is claimed of the capacity controller after any list of calls that an accepted reset opens, by the ledger.
-use Rattle.access.specs.Logic.{_≡_, Bool, ℕ}
+use Rattle.access.specs.Logic.{_≡_, Bool, List, ℕ}
 use Rattle.runs.specs.Runs.{Machine, stepOf, Always}
 use Rattle.runs.specs.Claims.{Book, whole, Reads, AllCounted, Lasting}
+use Rattle.runs.specs.ByNumber as number
 use Rattle.access.specs.Access as access
 use Rattle.access.specs.Checks as checks
-use Rattle.access.specs.Pairs.{wordAt, knownAt}
+use Rattle.fields.specs.Registers as reg
+use Rattle.access.specs.Pairs.{wordAt, withSetting, knownAt}
+use Rattle.allocation.specs.Allocation.{allocWord}
 use Rattle.monitor.specs.Monitor.{monStatus}
 use Rattle.codes.specs.declared.Resource.the-variants.{Capacity}
-use Rattle.capacity_model.specs.Rules.{Setup, hasBlock, allocStatus}
+use Rattle.capacity_model.specs.Rules.{Setup, hasBlock, badMask, limitOf, allocStatus}
 use Rattle.capacity_model.specs.Calls.{Call, kindOf, reset, read, write, fill, Answer, refused, value, allowed}
-use Rattle.capacity_model.specs.Model.{State, setupChecks, argumentChecks, capabilities, refusal, perform}
+use Rattle.capacity_model.specs.Model.{State, setupChecks, argumentChecks, capabilities, writeAlloc, refusal, perform}
 use Rattle.capacity_model.specs.Ledger.{Ledger, accepted, started, noteCall, settingsBy, counter, tally}
 
 -- ---- what the claims speak of
@@ -62,3 +65,14 @@ pub record Claims : Type 0 where
 -- ---- counters: each holds its count, value and flag
 abbrev pub Counting : Type 0
 Counting = AllCounted controller book tally counter (λ s. s .monitor .counters)
+
+-- ---- what a write to alloc_ctl leaves, for every set-up, table, block_mask and value, is what the decisions by numbers leave
+abbrev pub AllocByNumber : Type 0
+AllocByNumber =
+    (su : Setup) (mask : ℕ) (masks : List ℕ) (v : ℕ)
+    → (let bad = badMask mask in
+    writeAlloc su mask masks v ≡ record {
+      ctl = allocWord (su .na) v reg.idle (number.operationStatus (su .nr) (su .na) bad v);
+      mask = number.operandAfter (su .nr) (su .na) bad masks mask v;
+      masks = number.tableAfter (su .nr) (su .na) bad masks (withSetting (su .na) masks (limitOf su mask v)) v;
+    })

@@ -8,7 +8,7 @@ use native.Mathlib.Omega.{arith}
 use lib.Dec.{T, leb, eqb, leb→le, nleb→lt, eqb→eq}
 use Rattle.tables.proofs.Tests.{cases, and-l, and-r, or-l, or-r, not-in, is-true, is-false, eqb-in, same-test, between-low, between-high, between-in}
 use Rattle.codes.specs.Codes.{Codes, _has_, _to_}
-use Rattle.codes.specs.Claims.{EachInOne}
+use Rattle.codes.specs.Claims.{EachInOneRow}
 
 -- ---- a row and a code
 
@@ -129,7 +129,7 @@ module _ {X : Type 0} (table : X → Codes) where
           next s u (inr i) = a .only s i u
 
   -- rows that follow each other from 0 and are all that there are
-  pub each-in-one : (rs : List X) (end : ℕ) → T (follow 0 rs end) → ((r : X) → List·Memᴰ r rs) → EachInOne table end
+  pub each-in-one : (rs : List X) (end : ℕ) → T (follow 0 rs end) → ((r : X) → List·Memᴰ r rs) → EachInOneRow table end
   each-in-one rs end t every = record {
     each = λ code h. let a = among 0 rs end t code (omega arith) h in record { row = a .row; stands = a .stands; only = λ r u. a .only r (every r) u };
     below = λ r code u. omega (arith, inside 0 rs end t r (every r) .1, le-last (table r) code u);

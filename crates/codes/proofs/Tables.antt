@@ -2,7 +2,7 @@
 use mathlib.Core.Path.{refl}
 use mathlib.Core.List.{List, [], _∷_, List·Memᴰ, List·Memᴰ·head, List·Memᴰ·tail}
 use Rattle.codes.specs.Codes.{allocOps, monOps, bandwidthEvents, capacityEvents}
-use Rattle.codes.specs.Claims.{EachInOne, Rows}
+use Rattle.codes.specs.Claims.{EachInOneRow, Tables}
 use Rattle.codes.specs.declared.AllocOp.{AllocOp}
 use Rattle.codes.specs.declared.AllocOp.the-variants as alloc
 use Rattle.codes.specs.declared.MonOp.{MonOp}
@@ -16,7 +16,7 @@ use Rattle.codes.proofs.Rows.{each-in-one}
 abbrev allocRows : List AllocOp
 allocRows = alloc.ReservedZero ∷ alloc.ConfigLimit ∷ alloc.ReadLimit ∷ alloc.Reserved ∷ alloc.Custom ∷ []
 
-pub alloc-in-one : EachInOne allocOps 32
+pub alloc-in-one : EachInOneRow allocOps 32
 unfolding allocOps
 alloc-in-one = each-in-one allocOps allocRows 32 tt every
   where
@@ -30,7 +30,7 @@ alloc-in-one = each-in-one allocOps allocRows 32 tt every
 abbrev monRows : List MonOp
 monRows = mon.ReservedZero ∷ mon.ConfigEvent ∷ mon.ReadCounter ∷ mon.Reserved ∷ mon.Custom ∷ []
 
-pub mon-in-one : EachInOne monOps 32
+pub mon-in-one : EachInOneRow monOps 32
 unfolding monOps
 mon-in-one = each-in-one monOps monRows 32 tt every
   where
@@ -44,7 +44,7 @@ mon-in-one = each-in-one monOps monRows 32 tt every
 abbrev bandwidthRows : List BandwidthEvent
 bandwidthRows = bandwidth.None ∷ bandwidth.TotalReadWrite ∷ bandwidth.TotalRead ∷ bandwidth.TotalWrite ∷ bandwidth.Reserved ∷ bandwidth.Custom ∷ []
 
-pub bandwidth-in-one : EachInOne bandwidthEvents 256
+pub bandwidth-in-one : EachInOneRow bandwidthEvents 256
 unfolding bandwidthEvents
 bandwidth-in-one = each-in-one bandwidthEvents bandwidthRows 256 tt every
   where
@@ -59,7 +59,7 @@ bandwidth-in-one = each-in-one bandwidthEvents bandwidthRows 256 tt every
 abbrev capacityRows : List CapacityEvent
 capacityRows = capacity.None ∷ capacity.Occupancy ∷ capacity.Reserved ∷ capacity.Custom ∷ []
 
-pub capacity-in-one : EachInOne capacityEvents 256
+pub capacity-in-one : EachInOneRow capacityEvents 256
 unfolding capacityEvents
 capacity-in-one = each-in-one capacityEvents capacityRows 256 tt every
   where
@@ -69,5 +69,5 @@ capacity-in-one = each-in-one capacityEvents capacityRows 256 tt every
     every capacity.Reserved = search (List·Memᴰ·head, List·Memᴰ·tail) depth 6
     every capacity.Custom = search (List·Memᴰ·head, List·Memᴰ·tail) depth 6
 
-pub rows : Rows
-rows = record { allocOp = alloc-in-one; monOp = mon-in-one; bandwidthEvent = bandwidth-in-one; capacityEvent = capacity-in-one }
+pub tables : Tables
+tables = record { allocOp = alloc-in-one; monOp = mon-in-one; bandwidthEvent = bandwidth-in-one; capacityEvent = capacity-in-one }

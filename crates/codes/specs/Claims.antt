@@ -11,13 +11,13 @@ pub record OneRow {X : Type 0} (table : X → Codes) (code : ℕ) : Type 0 where
   pub only : (r : X) → T (table r has code) → r ≡ row
 
 -- each code below end stands in exactly one row, and no row has another code
-pub record EachInOne {X : Type 0} (table : X → Codes) (end : ℕ) : Type 0 where
+pub record EachInOneRow {X : Type 0} (table : X → Codes) (end : ℕ) : Type 0 where
   pub each : (code : ℕ) → code < end → OneRow table code
   pub below : (r : X) (code : ℕ) → T (table r has code) → code < end
 
 -- OP has five bits and EVT_ID has eight
-pub record Rows : Type 0 where
-  pub allocOp : EachInOne allocOps 32
-  pub monOp : EachInOne monOps 32
-  pub bandwidthEvent : EachInOne bandwidthEvents 256
-  pub capacityEvent : EachInOne capacityEvents 256
+pub record Tables : Type 0 where
+  pub allocOp : EachInOneRow allocOps 32
+  pub monOp : EachInOneRow monOps 32
+  pub bandwidthEvent : EachInOneRow bandwidthEvents 256
+  pub capacityEvent : EachInOneRow capacityEvents 256

@@ -2,7 +2,7 @@
 ghost use Prim.Native.Nat.{_<_};
 ghost use lib.Dec.{T};
 ghost use Rattle.codes.specs.Codes.{_has_, allocOps, monOps, bandwidthEvents, capacityEvents};
-ghost use Rattle.codes.specs.Claims.{Rows};
+ghost use Rattle.codes.specs.Claims.{Tables};
 
 // OP of alloc_ctl: capacity (Table 6) and bandwidth (Table 12) allocation operations.
 pub enum AllocOp {
@@ -46,7 +46,7 @@ pub enum CapacityEvent {
     Custom,
 }
 
-// The row of an OP of alloc_ctl.
+// The row of an OP of alloc_ctl, which has five bits.
 pub fn alloc_op(op: u64) -> AllocOp
     requires { ⌜ op < 32 ⌝ }
     ensures { λ r. ⌜ T (allocOps r has op) ⌝ }
@@ -61,7 +61,7 @@ pub fn alloc_op(op: u64) -> AllocOp
     }
 }
 
-// The row of an OP of mon_ctl.
+// The row of an OP of mon_ctl, which has five bits.
 pub fn mon_op(op: u64) -> MonOp
     requires { ⌜ op < 32 ⌝ }
     ensures { λ r. ⌜ T (monOps r has op) ⌝ }
@@ -76,7 +76,7 @@ pub fn mon_op(op: u64) -> MonOp
     }
 }
 
-// The row of an EVT_ID of the bandwidth controller.
+// The row of an EVT_ID of the bandwidth controller, which has eight bits.
 pub fn bandwidth_event(event: u64) -> BandwidthEvent
     requires { ⌜ event < 256 ⌝ }
     ensures { λ r. ⌜ T (bandwidthEvents r has event) ⌝ }
@@ -92,7 +92,7 @@ pub fn bandwidth_event(event: u64) -> BandwidthEvent
     }
 }
 
-// The row of an EVT_ID of the capacity controller.
+// The row of an EVT_ID of the capacity controller, which has eight bits.
 pub fn capacity_event(event: u64) -> CapacityEvent
     requires { ⌜ event < 256 ⌝ }
     ensures { λ r. ⌜ T (capacityEvents r has event) ⌝ }
@@ -108,5 +108,5 @@ pub fn capacity_event(event: u64) -> CapacityEvent
 
 // Does nothing. Its contract holds the claim, so that it cannot vanish unnoticed.
 pub fn claims()
-    ensures { λ r. ⌜ Rows ⌝ }
+    ensures { λ r. ⌜ Tables ⌝ }
 {}

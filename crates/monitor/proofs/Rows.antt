@@ -21,17 +21,16 @@ use Rattle.monitor.specs.Bytes.{countsKind}
 -- ---- the reserved and the custom row
 
 pub record UnknownBytes (event : ℕ) : Type 0 where
-  pub counts : countsEvent Bandwidth event ≡ false
   pub kinds : (kind : ℕ) → countsKind event kind ≡ false
   pub unknown : unknownEvent Bandwidth event ≡ true
 
 unknown-bytes : (event : ℕ) → 4 ≤ event → T (unknownEvent Bandwidth event) → UnknownBytes event
-unfolding countsEvent countsKind bandwidthEvents
+unfolding countsKind bandwidthEvents
 unknown-bytes event h t =
     let one = single-above 1 event (omega arith) in
     let two = single-above 2 event (omega arith) in
     let three = single-above 3 event (omega arith) in
-    record { counts = rw (one, two, three) refl; kinds = λ kind. rw (one, two, three) refl; unknown = is-true (unknownEvent Bandwidth event) t }
+    record { kinds = λ kind. rw (one, two, three) refl; unknown = is-true (unknownEvent Bandwidth event) t }
 
 pub reserved-bytes : (event : ℕ) → T (bandwidthEvents bandwidth.Reserved has event) → UnknownBytes event
 unfolding unknownEvent bandwidthEvents
@@ -43,23 +42,13 @@ unfolding unknownEvent bandwidthEvents
 custom-bytes event t =
     unknown-bytes event (omega (arith, first-le (128 to 255) event t)) (or-r (bandwidthEvents bandwidth.Reserved has event) (bandwidthEvents bandwidth.Custom has event) t)
 
-pub record UnknownCapacity (event : ℕ) : Type 0 where
-  pub counts : countsEvent Capacity event ≡ false
-  pub unknown : unknownEvent Capacity event ≡ true
+pub reserved-capacity : (event : ℕ) → T (capacityEvents capacity.Reserved has event) → unknownEvent Capacity event ≡ true
+unfolding unknownEvent
+reserved-capacity event t = is-true (unknownEvent Capacity event) (or-l (capacityEvents capacity.Reserved has event) (capacityEvents capacity.Custom has event) t)
 
-unknown-capacity : (event : ℕ) → 2 ≤ event → T (unknownEvent Capacity event) → UnknownCapacity event
-unfolding countsEvent capacityEvents
-unknown-capacity event h t = record { counts = single-above 1 event (omega arith); unknown = is-true (unknownEvent Capacity event) t }
-
-pub reserved-capacity : (event : ℕ) → T (capacityEvents capacity.Reserved has event) → UnknownCapacity event
-unfolding unknownEvent capacityEvents
-reserved-capacity event t =
-    unknown-capacity event (first-le (2 to 127) event t) (or-l (capacityEvents capacity.Reserved has event) (capacityEvents capacity.Custom has event) t)
-
-pub custom-capacity : (event : ℕ) → T (capacityEvents capacity.Custom has event) → UnknownCapacity event
-unfolding unknownEvent capacityEvents
-custom-capacity event t =
-    unknown-capacity event (omega (arith, first-le (128 to 255) event t)) (or-r (capacityEvents capacity.Reserved has event) (capacityEvents capacity.Custom has event) t)
+pub custom-capacity : (event : ℕ) → T (capacityEvents capacity.Custom has event) → unknownEvent Capacity event ≡ true
+unfolding unknownEvent
+custom-capacity event t = is-true (unknownEvent Capacity event) (or-r (capacityEvents capacity.Reserved has event) (capacityEvents capacity.Custom has event) t)
 
 -- ---- an event that is known and not None is counted
 

@@ -4,6 +4,7 @@
 mod bandwidth;
 mod capacity;
 mod case;
+mod codes;
 mod devices;
 mod forms;
 mod grants;
@@ -60,6 +61,7 @@ fn all(side: Side) -> Report {
     waiters::run(&mut report);
     served::run(&mut report);
     capacity::run(&mut report);
+    codes::run(&mut report);
     forms::run(&mut report);
     refusals::run(&mut report);
     sweep::run(&mut report);

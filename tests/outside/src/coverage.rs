@@ -8,7 +8,7 @@ use std::collections::BTreeMap;
 
 use crate::controller::Controller;
 use crate::model::access::{ALLOC_CTL, MON_CTL};
-use crate::model::registers::STATUS;
+use crate::model::registers::{CONFIG_EVENT, EVT_ID, OP, STATUS};
 use crate::model::{Answer, Checked, Sizes};
 
 pub type Labels = Vec<String>;
@@ -88,18 +88,39 @@ fn unknown(call: &str, sizes: &impl Sizes, rcid: u64, mcid: u64) -> Option<Strin
     Some(format!("{call} refused for {which}"))
 }
 
-/// The label of an operation's STATUS, if an accepted write performed one.
-fn operation(offset: u64, alloc_ctl: u64, mon_ctl: u64) -> Option<String> {
-    match offset {
-        ALLOC_CTL => Some(format!("alloc_ctl STATUS {}", STATUS.get(alloc_ctl))),
-        MON_CTL => Some(format!("mon_ctl STATUS {}", STATUS.get(mon_ctl))),
-        _ => None,
+/// First and last code of each row of OP, in both control registers of both controllers.
+const OPERATIONS: [(u64, u64); 5] = [(0, 0), (1, 1), (2, 2), (3, 23), (24, 31)];
+
+/// "mon_ctl OP 3 to 23".
+fn row(name: &str, first: u64, last: u64) -> String {
+    format!("{name} {first} to {last}")
+}
+
+/// "mon_ctl OP 3 to 23", for the row in which a code stands.
+fn row_of(name: &str, rows: &[(u64, u64)], code: u64) -> Option<String> {
+    let found = rows.iter().find(|&&(first, last)| (first..=last).contains(&code));
+    found.map(|&(first, last)| row(name, first, last))
+}
+
+/// STATUS and row of the operation that an accepted write performed, if it did; `events` are the
+/// rows of EVT_ID, which CONFIG_EVENT goes by.
+fn operation(offset: u64, alloc_ctl: u64, mon_ctl: u64, events: &[(u64, u64)]) -> Labels {
+    let (name, word) = match offset {
+        ALLOC_CTL => ("alloc_ctl", alloc_ctl),
+        MON_CTL => ("mon_ctl", mon_ctl),
+        _ => return Labels::new(),
+    };
+    let mut labels = vec![format!("{name} STATUS {}", STATUS.get(word))];
+    labels.extend(row_of(&format!("{name} OP"), &OPERATIONS, OP.get(word)));
+    if offset == MON_CTL && OP.get(word) == CONFIG_EVENT {
+        labels.extend(row_of("CONFIG_EVENT EVT_ID", events, EVT_ID.get(word)));
     }
+    labels
 }
 
 /// Labels that both controllers must show: each refusal of each call, each identifier that does not
-/// exist, and each STATUS.
-fn common_required(refusals: &[(&str, &[u64])]) -> Vec<String> {
+/// exist, each STATUS, and each row of OP and EVT_ID.
+fn common_required(refusals: &[(&str, &[u64])], events: &[(u64, u64)]) -> Vec<String> {
     let mut labels = Vec::new();
     for (call, numbers) in refusals {
         labels.push(outcome(call, 0));
@@ -110,6 +131,8 @@ fn common_required(refusals: &[(&str, &[u64])]) -> Vec<String> {
     }
     for register in ["alloc_ctl", "mon_ctl"] {
         labels.extend((1..=5).map(|status| format!("{register} STATUS {status}")));
+        labels.extend(OPERATIONS.map(|(first, last)| row(&format!("{register} OP"), first, last)));
     }
+    labels.extend(events.iter().map(|&(first, last)| row("CONFIG_EVENT EVT_ID", first, last)));
     labels
 }

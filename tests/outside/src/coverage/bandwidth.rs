@@ -14,6 +14,9 @@ use crate::model::bandwidth::{Call, Request, State, OVF};
 use crate::model::registers::{AT, RCID, STATUS};
 use crate::model::{Answer, Checked, Sizes};
 
+/// First and last code of each row of EVT_ID.
+const EVENTS: [(u64, u64); 6] = [(0, 0), (1, 1), (2, 2), (3, 3), (4, 127), (128, 255)];
+
 pub fn call_name(call: &Call) -> &'static str {
     match call {
         Call::Reset(_) => "reset",
@@ -31,7 +34,12 @@ pub fn accepted(before: &State, call: &Call, answer: Answer, after: &State) -> L
     let mut labels = Vec::new();
     match call {
         Call::Write { offset, .. } => {
-            labels.extend(operation(*offset, after.record.alloc_ctl, after.record.mon_ctl));
+            labels.extend(operation(
+                *offset,
+                after.record.alloc_ctl,
+                after.record.mon_ctl,
+                &EVENTS,
+            ));
             labels.extend(setting_change(before, after));
             if *offset == ALLOC_CTL && STATUS.get(after.record.alloc_ctl) == 5 {
                 labels.push(format!("bad operand: {}", bad_operand(after)));
@@ -147,17 +155,20 @@ fn counter_change(before: &State, request: &Request, granted: u64, after: &State
 }
 
 pub fn required() -> Labels {
-    let mut labels = common_required(&[
-        ("reset", &[1, 2]),
-        ("read", &[1, 2, 3, 4, 5]),
-        ("write", &[1, 2, 3, 4, 5, 6]),
-        ("request", &[1, 2, 3, 7]),
-        (devices::OFF_NAME, &[1, 2, 3, 7]),
-        (devices::BARE_NAME, &[1, 2, 3, 7]),
-        (devices::DIRECTORY_NAME, &[1, 2, 3, 9]),
-        ("wait", &[1, 2, 3, 7, 10, 11]),
-        ("end_window", &[1, 2, 3]),
-    ]);
+    let mut labels = common_required(
+        &[
+            ("reset", &[1, 2]),
+            ("read", &[1, 2, 3, 4, 5]),
+            ("write", &[1, 2, 3, 4, 5, 6]),
+            ("request", &[1, 2, 3, 7]),
+            (devices::OFF_NAME, &[1, 2, 3, 7]),
+            (devices::BARE_NAME, &[1, 2, 3, 7]),
+            (devices::DIRECTORY_NAME, &[1, 2, 3, 9]),
+            ("wait", &[1, 2, 3, 7, 10, 11]),
+            ("end_window", &[1, 2, 3]),
+        ],
+        &EVENTS,
+    );
     labels.extend(OTHERS.map(String::from));
     labels.extend(grants::SOURCES.map(String::from));
     labels.extend(devices::required());

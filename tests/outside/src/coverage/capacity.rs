@@ -4,6 +4,9 @@ use super::{common_required, operation, unknown, Labels};
 use crate::model::capacity::{Call, State, INVALID};
 use crate::model::Answer;
 
+/// First and last code of each row of EVT_ID.
+const EVENTS: [(u64, u64); 4] = [(0, 0), (1, 1), (2, 127), (128, 255)];
+
 pub fn call_name(call: &Call) -> &'static str {
     match call {
         Call::Reset(_) => "reset",
@@ -18,7 +21,12 @@ pub fn accepted(before: &State, call: &Call, answer: Answer, after: &State) -> L
     let mut labels = Vec::new();
     match call {
         Call::Write { offset, .. } => {
-            labels.extend(operation(*offset, after.record.alloc_ctl, after.record.mon_ctl));
+            labels.extend(operation(
+                *offset,
+                after.record.alloc_ctl,
+                after.record.mon_ctl,
+                &EVENTS,
+            ));
             labels.extend(state_change(before, after));
         }
         Call::Fill(event) => {
@@ -75,13 +83,16 @@ fn counter_change(call: &str, before: &State, mcid: u64, after: &State) -> Optio
 }
 
 pub fn required() -> Labels {
-    let mut labels = common_required(&[
-        ("reset", &[1, 2]),
-        ("read", &[1, 2, 3, 4, 5]),
-        ("write", &[1, 2, 3, 4, 5, 6]),
-        ("fill", &[1, 2, 3, 7, 8]),
-        ("evict", &[1, 2, 3, 7, 8]),
-    ]);
+    let mut labels = common_required(
+        &[
+            ("reset", &[1, 2]),
+            ("read", &[1, 2, 3, 4, 5]),
+            ("write", &[1, 2, 3, 4, 5, 6]),
+            ("fill", &[1, 2, 3, 7, 8]),
+            ("evict", &[1, 2, 3, 7, 8]),
+        ],
+        &EVENTS,
+    );
     let others = [
         "refused 3 for a register",
         "refused 3 for a mask",

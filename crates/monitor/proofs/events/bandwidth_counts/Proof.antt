@@ -1,29 +1,13 @@
 -- `monitor::events::bandwidth_counts` meets its contract.
-use borrow.Author.Needs.{needs}
-use Rattle.tables.specs.Below.{between}
-use Rattle.codes.specs.Codes.{_has_, bandwidthEvents}
-use Rattle.codes.specs.declared.BandwidthEvent.the-variants as bandwidth
-use Rattle.codes.proofs.Rows.{code-of, found}
+use Rattle.codes.specs.Codes.{bandwidthEvents}
+use Rattle.codes.proofs.Rows.{single-test}
 use Rattle.monitor.specs.Monitor.{countsEvent}
-use Rattle.monitor.proofs.Rows.{reserved-bytes, custom-bytes}
 use Rattle.monitor.proofs.events.bandwidth_counts.Statement.{statement}
 use Rattle.monitor.proofs.events.bandwidth_counts.Tie as tie
 
+returns : tie.Need-returns
+unfolding countsEvent bandwidthEvents
+returns c = rw (single-test 1 _, single-test 2 _, single-test 3 _)
+
 pub bandwidth-counts-spec : {M : Type 1} → statement M
-unfolding countsEvent bandwidthEvents _has_ between
-bandwidth-counts-spec =
-    tie.close
-    (tie.spec
-    (λ c κs. search needs)
-    (λ c. search needs)
-    (λ c. search needs)
-    (λ c. search needs)
-    (λ c. search needs)
-    (λ c. search needs)
-    (λ c. search needs)
-    (λ c. rw (code-of 0 (c .before .before .before .args .event) (found bandwidthEvents bandwidth.None _ (c .enum-told .given .1) (c .before .before .bandwidth-event .ensures))))
-    (λ c. rw (code-of 1 (c .before .before .before .args .event) (found bandwidthEvents bandwidth.TotalReadWrite _ (c .enum-told2 .given .1) (c .before .before .bandwidth-event .ensures))))
-    (λ c. rw (code-of 2 (c .before .before .before .args .event) (found bandwidthEvents bandwidth.TotalRead _ (c .enum-told3 .given .1) (c .before .before .bandwidth-event .ensures))))
-    (λ c. rw (code-of 3 (c .before .before .before .args .event) (found bandwidthEvents bandwidth.TotalWrite _ (c .enum-told4 .given .1) (c .before .before .bandwidth-event .ensures))))
-    (λ c. rw (reserved-bytes _ (found bandwidthEvents bandwidth.Reserved _ (c .enum-told5 .given .1) (c .before .before .bandwidth-event .ensures)) .counts))
-    (λ c. rw (custom-bytes _ (found bandwidthEvents bandwidth.Custom _ (c .enum-told6 .given .1) (c .before .before .bandwidth-event .ensures)) .counts)))
+bandwidth-counts-spec = tie.close (tie.spec returns)

@@ -3,11 +3,5 @@ use borrow.Author.Needs.{needs}
 use Rattle.monitor.proofs.events.counts_event.Statement.{statement}
 use Rattle.monitor.proofs.events.counts_event.Tie as tie
 
-returns : tie.Need-returns
-returns c = cc
-
-returns-2 : tie.Need-returns-2
-returns-2 c = cc
-
 pub counts-event-spec : {M : Type 1} → statement M
-counts-event-spec = tie.close (tie.spec (λ c. search needs) (λ c κs. search needs) (λ c. search needs) (λ c κs. search needs) returns returns-2)
+counts-event-spec = tie.close (tie.spec (λ c κs. search needs) (λ c κs. search needs) (λ c. search needs) (λ c. search needs) (λ c. cc) (λ c. cc))

@@ -21,5 +21,5 @@ capacity-event-status-spec =
     (λ c. search needs)
     (λ c. rw (code-of 0 (c .before .before .before .args .event) (found capacityEvents capacity.None _ (c .enum-told .given .1) (c .before .before .capacity-event .ensures))))
     (λ c. rw (code-of 1 (c .before .before .before .args .event) (found capacityEvents capacity.Occupancy _ (c .enum-told2 .given .1) (c .before .before .capacity-event .ensures))))
-    (λ c. rw (reserved-capacity _ (found capacityEvents capacity.Reserved _ (c .enum-told3 .given .1) (c .before .before .capacity-event .ensures)) .unknown))
-    (λ c. rw (custom-capacity _ (found capacityEvents capacity.Custom _ (c .enum-told4 .given .1) (c .before .before .capacity-event .ensures)) .unknown)))
+    (λ c. rw (reserved-capacity _ (found capacityEvents capacity.Reserved _ (c .enum-told3 .given .1) (c .before .before .capacity-event .ensures))))
+    (λ c. rw (custom-capacity _ (found capacityEvents capacity.Custom _ (c .enum-told4 .given .1) (c .before .before .capacity-event .ensures)))))
