@@ -5,9 +5,8 @@ use crate::operand::bad_operand;
 use allocation::alloc_status;
 use allocation::alloc_word;
 use allocation::control_ok;
+use allocation::effect_of;
 use allocation::held_fields;
-use allocation::reads_limit;
-use allocation::sets_limit;
 use bandwidth_setup::Setup;
 use fields::BwAlloc;
 use tables::Row;
@@ -152,10 +151,11 @@ pub fn write_row(setup: Setup, row: &mut [u32], reserved: u64, bw: u64, v: u64) 
     let status = alloc_status(setup.nr, setup.na, bad, v);
     let at = f.at as usize;
     let old = word32(row, at) as u64;
-    settle_row(sets_limit(f.op, status), row, at, stored_word(bw));
+    let effect = effect_of(f.op, status);
+    settle_row(effect.sets, row, at, stored_word(bw));
     Written {
         ctl: alloc_word(f, status),
-        bw: pick(reads_limit(f.op, status), old, bw),
+        bw: pick(effect.reads, old, bw),
     }
 }
 

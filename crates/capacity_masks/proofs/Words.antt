@@ -1,6 +1,6 @@
 -- Block masks as the code has them: no bit NCBLKS or above, tested over all masks at once, the operation of alloc_ctl, and the masks of a reset.
 use mathlib.Core.Path.{_≡_, refl, sym, ap, _∙_}
-use mathlib.Core.Bool.{Bool, cond, _&&_}
+use mathlib.Core.Bool.{cond}
 use mathlib.Core.List.{List, [], _∷_, _++_}
 use Prim.Native.Nat.{ℕ, _-_, _*_, _%_, _^_, _≤_, _<_}
 use native.Mathlib.Nat.{mod-eq-of-lt, mod-lt}
@@ -18,10 +18,9 @@ use Rattle.fields.specs.Registers.{allocCtl}
 use Rattle.fields.specs.declared.AllocCtl.{AllocCtl}
 use Rattle.access.specs.Pairs.{pair, wordAt}
 use Rattle.access.proofs.Pairs.{rows}
-use Rattle.codes.specs.Codes.{_has_, allocOps}
-use Rattle.codes.specs.declared.AllocOp.the-variants.{ConfigLimit, ReadLimit}
 use Rattle.allocation.specs.Allocation as allocation
-use Rattle.allocation.specs.View.{AllocFields}
+use Rattle.allocation.specs.View.{AllocFields, EffectOf}
+use Rattle.allocation.specs.declared.Effect.{Effect}
 use Rattle.monitor.proofs.Steps.{put-back}
 use Rattle.capacity_model.specs.Rules.{Setup, pairs, maskOf, allBlocks, resetMasks, badMask}
 use Rattle.capacity_model.specs.Model.{writeAlloc}
@@ -51,13 +50,12 @@ masks-test su n f =
     ones-test k (unionBelow n f) ∙ sym (low-test k (unionBelow n f)) ∙ union-low k n f ∙ all-same n _ _ (λ i l. held-test su (f i))
 
 -- the operation of alloc_ctl on the table, from what each step gives of the mask of the pair that it names
-pub alloc-words : (su : Setup) (v operand mask st : ℕ) (sets reads : Bool) (f : AllocCtl) (x : AllocWords) (masks : List ℕ) → AllocFields (su .na) v f → Small (allocation.operationStatus (su .nr) (su .na) (eqb operand 0) v) 5 st
-    → x .ctl ≡ pack allocCtl (0 ∷ st ∷ f .rcid ∷ f .at ∷ f .op ∷ []) → reads ≡ (allocOps ReadLimit has f .op && eqb st 1) → x .operand ≡ cond reads mask operand
-    → sets ≡ (allocOps ConfigLimit has f .op && eqb st 1) → x .mask ≡ cond sets operand mask
+pub alloc-words : (su : Setup) (v operand mask st : ℕ) (effect : Effect) (f : AllocCtl) (x : AllocWords) (masks : List ℕ) → AllocFields (su .na) v f → Small (allocation.operationStatus (su .nr) (su .na) (eqb operand 0) v) 5 st
+    → x .ctl ≡ pack allocCtl (0 ∷ st ∷ f .rcid ∷ f .at ∷ f .op ∷ []) → EffectOf (f .op) st effect → x .operand ≡ cond (effect .reads) mask operand → x .mask ≡ cond (effect .sets) operand mask
     → mask ≡ getD masks (pair (su .na) (allocation.rcidOf v) (allocation.atOf (su .na) v)) 0
     → record { ctl = x .ctl; mask = x .operand; masks = set masks (pair (su .na) (allocation.rcidOf v) (allocation.atOf (su .na) v)) (x .mask) } ≡ writeAlloc su operand masks v
 unfolding writeAlloc allocation.allocWord badMask allocation.operandAfter allocation.tableAfter allocation.succeeds allocation.performs wordAt
-alloc-words su v operand mask st sets reads f x masks g s c q o p m e = rw (m, p, o, q, c, e, s .is, g .op-is, g .at-is, g .rcid-is, put-back) refl
+alloc-words su v operand mask st effect f x masks g s c d o m e = rw (m, o, d .sets-is, d .reads-is, c, e, s .is, g .op-is, g .at-is, g .rcid-is, put-back) refl
 
 -- 0 everywhere, then every block for RCID 0
 pub reset-words : (su : Setup) → 1 ≤ su .nr → replicate (su .na) (allBlocks su) ++ drop (su .na) (replicate (pairs su) 0) ≡ resetMasks su

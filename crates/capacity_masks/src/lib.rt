@@ -4,9 +4,8 @@ mod setup;
 use access::place;
 use allocation::alloc_status;
 use allocation::alloc_word;
+use allocation::effect_of;
 use allocation::held_fields;
-use allocation::reads_limit;
-use allocation::sets_limit;
 use fields::ones;
 pub use setup::Setup;
 use tables::pick;
@@ -89,9 +88,10 @@ pub fn alloc_after(setup: Setup, operand: u64, mask: u64, v: u64) -> AllocWords
 {
     let f = held_fields(setup.na, v);
     let status = alloc_status(setup.nr, setup.na, operand == 0, v);
+    let effect = effect_of(f.op, status);
     AllocWords {
         ctl: alloc_word(f, status),
-        operand: pick(reads_limit(f.op, status), mask, operand),
-        mask: pick(sets_limit(f.op, status), operand, mask),
+        operand: pick(effect.reads, mask, operand),
+        mask: pick(effect.sets, operand, mask),
     }
 }

@@ -19,6 +19,7 @@ ghost use Rattle.codes.specs.Codes.{_has_, monOps};
 ghost use Rattle.codes.specs.declared.Resource.the-variants as resource;
 ghost use Rattle.codes.specs.declared.MonOp.the-variants as row;
 ghost use Rattle.monitor.specs.Monitor.{invalidOp, unknownEvent, monStatus};
+ghost use Rattle.monitor.specs.View.{EffectOf};
 
 // The STATUS of CONFIG_EVENT by ATV and AT.
 fn at_status(na: u64, ctl: MonCtl) -> u64
@@ -94,30 +95,33 @@ pub fn capacity_status(na: u64, nm: u64, v: u64) -> u64
     )
 }
 
-// Whether the operation is CONFIG_EVENT and ended with STATUS 1.
-pub fn configures(op: u64, status: u64) -> bool
-    requires { ⌜ op < 32 ⌝ }
-    ensures { λ r. ⌜ r ≡ (monOps row.ConfigEvent has op && eqb status 1) ⌝ }
-{
-    match mon_op(op) {
-        MonOp::ReservedZero => false,
-        MonOp::ConfigEvent => status == 1,
-        MonOp::ReadCounter => false,
-        MonOp::Reserved => false,
-        MonOp::Custom => false,
-    }
+// What an operation does: CONFIG_EVENT configures a counter, READ_COUNTER reads one, where they end with STATUS 1.
+pub struct Effect {
+    pub configures: bool,
+    pub reads: bool,
 }
 
-// Whether the operation is READ_COUNTER and ended with STATUS 1.
-pub fn reads(op: u64, status: u64) -> bool
+// What the operation of an OP does that ended with a STATUS.
+pub fn effect_of(op: u64, status: u64) -> Effect
     requires { ⌜ op < 32 ⌝ }
-    ensures { λ r. ⌜ r ≡ (monOps row.ReadCounter has op && eqb status 1) ⌝ }
+    ensures { λ r. ⌜ EffectOf op status r ⌝ }
 {
+    let done = status == 1;
+    let nothing = Effect {
+        configures: false,
+        reads: false,
+    };
     match mon_op(op) {
-        MonOp::ReservedZero => false,
-        MonOp::ConfigEvent => false,
-        MonOp::ReadCounter => status == 1,
-        MonOp::Reserved => false,
-        MonOp::Custom => false,
+        MonOp::ReservedZero => nothing,
+        MonOp::ConfigEvent => Effect {
+            configures: done,
+            reads: false,
+        },
+        MonOp::ReadCounter => Effect {
+            configures: false,
+            reads: done,
+        },
+        MonOp::Reserved => nothing,
+        MonOp::Custom => nothing,
     }
 }

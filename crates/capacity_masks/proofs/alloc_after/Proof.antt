@@ -8,11 +8,13 @@ use Rattle.capacity_masks.proofs.alloc_after.Tie as tie
 returns : tie.Need-returns
 returns c =
     λ masks e.
-    let f = c .before .before .before .before .before .before in
-    alloc-words (setupOf (f .before .args .setup)) _ _ _ _ _ _ _ _ masks (f .held-fields .ensures) (c .before .before .before .before .before .alloc-status .ensures) (c .before .before .before .before .alloc-word .ensures)
-    (c .before .before .before .reads-limit .ensures) (c .before .before .pick .ensures) (c .before .sets-limit .ensures) (c .pick2 .ensures) e
+    let word = c .before .before in
+    let status = word .before .before in
+    let f = status .before in
+    alloc-words (setupOf (f .before .args .setup)) _ _ _ _ _ _ _ masks (f .held-fields .ensures) (status .alloc-status .ensures) (word .alloc-word .ensures) (word .before .effect-of .ensures)
+    (c .before .pick .ensures) (c .pick2 .ensures) e
 
 pub alloc-after-spec : {M : Type 1} → statement M
 alloc-after-spec =
     tie.close
-    (tie.spec (λ c κs. search needs) (λ c κs. search needs) (λ c κs. search needs) (λ c κs. search needs) (λ c κs. search needs) (λ c κs. search needs) (λ c κs. search needs) returns)
+    (tie.spec (λ c κs. search needs) (λ c κs. search needs) (λ c κs. search needs) (λ c κs. search needs) (λ c κs. search needs) (λ c κs. search needs) returns)
