@@ -1,4 +1,4 @@
--- A table whose rows follow each other, from 0 to the end of the field, has each code in exactly one row.
+-- A code in a row; tables whose rows follow each other, from 0 to the end of the field, which have each code in exactly one row.
 use mathlib.Core.Path.{_≡_, subst}
 use mathlib.Core.Bool.{Bool, true, false, not, _&&_, _||_}
 use mathlib.Core.List.{List, [], _∷_, List·Memᴰ, List·Memᴰ·cases-cons, List·Memᴰ·not-nil}

@@ -22,12 +22,6 @@ pub enum MonOp {
     Custom,
 }
 
-// The two controllers by what they share out, as their tables of events differ.
-pub enum Resource {
-    Bandwidth,
-    Capacity,
-}
-
 // EVT_ID of the bandwidth controller: bandwidth monitoring event ID (Table 10).
 pub enum BandwidthEvent {
     None,
@@ -44,6 +38,12 @@ pub enum CapacityEvent {
     Occupancy,
     Reserved,
     Custom,
+}
+
+// The two controllers by what they share out, as their tables of events differ.
+pub enum Resource {
+    Bandwidth,
+    Capacity,
 }
 
 // The row of an OP of alloc_ctl, which has five bits.

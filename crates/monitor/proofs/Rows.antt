@@ -1,10 +1,9 @@
 -- What the row in which EVT_ID stands tells of it.
-use mathlib.Core.Path.{_≡_, refl, subst}
+use mathlib.Core.Path.{_≡_, refl}
 use mathlib.Core.Bool.{true, false, not, _||_}
 use Prim.Native.Nat.{ℕ, _≤_, _<_}
 use native.Mathlib.Omega.{arith}
-use lib.Dec.{T, lit<}
-use Rattle.tables.specs.Below.{between}
+use lib.Dec.{T}
 use Rattle.tables.proofs.Tests.{or-l, or-r, is-true, not-both}
 use Rattle.codes.specs.Codes.{_has_, _to_, noEvent, bandwidthEvents, capacityEvents}
 use Rattle.codes.specs.declared.Resource.{Resource}

@@ -1,5 +1,5 @@
 -- A tally of what each MCID counted, by calls and answers alone, in counts of any type.
-use Rattle.access.specs.Logic.{Bool, not, _&&_, List, ℕ, getD, set, replicate, if_then_else_, _==_, _‼_}
+use Rattle.access.specs.Logic.{Bool, not, _&&_, List, ℕ, getD, set, replicate, if_then_else_, _‼_}
 use Rattle.codes.specs.Codes.{_has_, noEvent}
 use Rattle.codes.specs.declared.Resource.{Resource}
 use Rattle.codes.specs.declared.MonOp.{MonOp}

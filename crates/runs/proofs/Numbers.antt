@@ -1,9 +1,9 @@
 -- The decisions by rows are those by numbers: two tests of a code are compared at every code of its field.
-use mathlib.Core.Path.{_≡_, refl, sym, ap, _∙_}
+use mathlib.Core.Path.{_≡_, refl}
 use mathlib.Core.Bool.{Bool, true, false, not, _&&_, _||_}
 use mathlib.Core.List.{List}
 use Prim.Native.Nat.{ℕ, _<_}
-use lib.Dec.{T, leb, eqb}
+use lib.Dec.{T, leb}
 use Rattle.fields.specs.Layout.{get}
 use Rattle.fields.specs.Registers as reg
 use Rattle.fields.proofs.Laws.{get-lt}
