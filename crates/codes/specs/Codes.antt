@@ -20,11 +20,12 @@ infix 60 _to_
 abbrev pub _to_ : ℕ → ℕ → Codes
 _to_ a b = record { first = a; last = b }
 
+-- the row has this code
 infix 50 _has_
 unfoldable pub _has_ : Codes → ℕ → Bool
 _has_ row code = between (row .first) code (row .last)
 
--- OP of alloc_ctl in both controllers: Table 6, where 3 is reserved here too, and Table 12
+-- OP of alloc_ctl: Table 12 of the bandwidth controller, and Table 6 of the capacity controller but for its OP 3, which is reserved here
 unfoldable pub allocOps : AllocOp → Codes
 allocOps alloc.ReservedZero = 0 to 0
 allocOps alloc.ConfigLimit = 1 to 1
@@ -32,7 +33,7 @@ allocOps alloc.ReadLimit = 2 to 2
 allocOps alloc.Reserved = 3 to 23
 allocOps alloc.Custom = 24 to 31
 
--- OP of mon_ctl in both controllers: Tables 3 and 9
+-- OP of mon_ctl: Table 9 of the bandwidth controller, and Table 3 of the capacity controller, with the same rows
 unfoldable pub monOps : MonOp → Codes
 monOps mon.ReservedZero = 0 to 0
 monOps mon.ConfigEvent = 1 to 1

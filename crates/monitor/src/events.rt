@@ -9,7 +9,7 @@ ghost use Rattle.codes.specs.declared.Resource.the-variants.{Bandwidth, Capacit
 ghost use Rattle.monitor.specs.Monitor.{countsEvent};
 ghost use Rattle.monitor.specs.Bytes.{countsKind};
 
-// The codes of the rows that have one.
+// The rows of one code.
 const NONE: u64 = 0;
 
 const TOTAL_READ_WRITE: u64 = 1;

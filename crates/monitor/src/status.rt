@@ -1,4 +1,4 @@
-// EVT_ID and OP of mon_ctl by the rows of their tables: the STATUS by the first condition that applies, and what the operation is.
+// OP and EVT_ID of mon_ctl by the rows of their tables: the STATUS, by the first condition that applies, and what the operation does.
 use crate::unpack_held;
 use codes::BandwidthEvent;
 use codes::CapacityEvent;
@@ -95,13 +95,13 @@ pub fn capacity_status(na: u64, nm: u64, v: u64) -> u64
     )
 }
 
-// What an operation does: CONFIG_EVENT configures a counter, READ_COUNTER reads one, where they end with STATUS 1.
+// What an operation does: configure a counter, read one, or neither.
 pub struct Effect {
     pub configures: bool,
     pub reads: bool,
 }
 
-// What the operation of an OP does that ended with a STATUS.
+// What the operation of this OP does, where it ended with this STATUS.
 pub fn effect_of(op: u64, status: u64) -> Effect
     requires { ⌜ op < 32 ⌝ }
     ensures { λ r. ⌜ EffectOf op status r ⌝ }

@@ -15,12 +15,7 @@ unfolding countsKind bandwidthEvents _has_ between
 counts-kind-spec =
     tie.close
     (tie.spec
-    (λ c κs. search needs)
-    (λ c. search needs)
-    (λ c. search needs)
-    (λ c. search needs)
-    (λ c. search needs)
-    (λ c. search needs)
+    (λ c κs. search needs) (λ c. search needs) (λ c. search needs) (λ c. search needs) (λ c. search needs) (λ c. search needs)
     (λ c. search needs)
     (λ c. rw (code-of 0 (c .before .before .before .args .event) (found bandwidthEvents bandwidth.None _ (c .enum-told .given .1) (c .before .before .bandwidth-event .ensures))))
     (λ c. rw (code-of 1 (c .before .before .before .args .event) (found bandwidthEvents bandwidth.TotalReadWrite _ (c .enum-told2 .given .1) (c .before .before .bandwidth-event .ensures))))

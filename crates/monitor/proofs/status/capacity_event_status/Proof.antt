@@ -14,11 +14,7 @@ unfolding unknownEvent capacityEvents _has_ between
 capacity-event-status-spec =
     tie.close
     (tie.spec
-    (λ c κs. search needs)
-    (λ c. search needs)
-    (λ c. search needs)
-    (λ c. search needs)
-    (λ c. search needs)
+    (λ c κs. search needs) (λ c. search needs) (λ c. search needs) (λ c. search needs) (λ c. search needs)
     (λ c. rw (code-of 0 (c .before .before .before .args .event) (found capacityEvents capacity.None _ (c .enum-told .given .1) (c .before .before .capacity-event .ensures))))
     (λ c. rw (code-of 1 (c .before .before .before .args .event) (found capacityEvents capacity.Occupancy _ (c .enum-told2 .given .1) (c .before .before .capacity-event .ensures))))
     (λ c. rw (reserved-capacity _ (found capacityEvents capacity.Reserved _ (c .enum-told3 .given .1) (c .before .before .capacity-event .ensures))))

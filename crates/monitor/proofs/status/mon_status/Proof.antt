@@ -13,14 +13,8 @@ unfolding invalidOp monOps _has_ between
 mon-status-spec =
     tie.close
     (tie.spec
-    (λ c κs. search needs)
-    (λ c. search needs)
-    (λ c. search needs)
-    (λ c κs. search needs)
-    (λ c. search needs)
-    (λ c κs. search needs)
-    (λ c. search needs)
-    (λ c. search needs)
+    (λ c κs. search needs) (λ c. search needs) (λ c. search needs) (λ c κs. search needs) (λ c. search needs) (λ c κs. search needs)
+    (λ c. search needs) (λ c. search needs)
     (λ c. rw (code-of 0 (c .before .before .before .before .args .ctl .op) (found monOps row.ReservedZero _ (c .enum-told .given .1) (c .before .before .mon-op .ensures))))
     (λ c. rw (code-of 1 (c .before .before .before .before .before .args .ctl .op) (found monOps row.ConfigEvent _ (c .before .enum-told2 .given .1) (c .before .before .before .mon-op .ensures)), c .pick .ensures))
     (λ c. rw (code-of 2 (c .before .before .before .before .before .args .ctl .op) (found monOps row.ReadCounter _ (c .before .enum-told3 .given .1) (c .before .before .before .mon-op .ensures)), c .pick2 .ensures))
