@@ -2,6 +2,7 @@
 use mathlib.Core.Path.{_≡_}
 use Prim.Native.Nat.{ℕ, _<_}
 use lib.Dec.{T}
+use Rattle.codes.specs.declared.Resource.{Resource}
 use Rattle.codes.specs.Codes.{Codes, _has_, allocOps, monOps, bandwidthEvents, capacityEvents}
 
 -- the code stands in one row, and in no other
@@ -17,7 +18,7 @@ pub record EachInOneRow {X : Type 0} (table : X → Codes) (end : ℕ) : Type 0 
 
 -- OP has five bits and EVT_ID has eight
 pub record Tables : Type 0 where
-  pub allocOp : EachInOneRow allocOps 32
+  pub allocOp : (resource : Resource) → EachInOneRow (allocOps resource) 32
   pub monOp : EachInOneRow monOps 32
   pub bandwidthEvent : EachInOneRow bandwidthEvents 256
   pub capacityEvent : EachInOneRow capacityEvents 256

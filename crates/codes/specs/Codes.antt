@@ -2,6 +2,8 @@
 use mathlib.Core.Bool.{Bool}
 use Prim.Native.Nat.{ℕ}
 use Rattle.tables.specs.Below.{between}
+use Rattle.codes.specs.declared.Resource.{Resource}
+use Rattle.codes.specs.declared.Resource.the-variants.{Bandwidth, Capacity}
 use Rattle.codes.specs.declared.AllocOp.{AllocOp}
 use Rattle.codes.specs.declared.AllocOp.the-variants as alloc
 use Rattle.codes.specs.declared.MonOp.{MonOp}
@@ -25,13 +27,20 @@ infix 50 _has_
 unfoldable pub _has_ : Codes → ℕ → Bool
 _has_ row code = between (row .first) code (row .last)
 
--- OP of alloc_ctl: Table 12 of the bandwidth controller, and Table 6 of the capacity controller but for its OP 3, which is reserved here
-unfoldable pub allocOps : AllocOp → Codes
-allocOps alloc.ReservedZero = 0 to 0
-allocOps alloc.ConfigLimit = 1 to 1
-allocOps alloc.ReadLimit = 2 to 2
-allocOps alloc.Reserved = 3 to 23
-allocOps alloc.Custom = 24 to 31
+-- a row that a table does not have
+abbrev pub noCode : Codes
+noCode = 1 to 0
+
+-- OP of alloc_ctl: Table 12 of the bandwidth controller and Table 6 of the capacity controller, which alone has FLUSH_RCID
+unfoldable pub allocOps : Resource → AllocOp → Codes
+allocOps resource alloc.ReservedZero = 0 to 0
+allocOps resource alloc.ConfigLimit = 1 to 1
+allocOps resource alloc.ReadLimit = 2 to 2
+allocOps Bandwidth alloc.FlushRcid = noCode
+allocOps Capacity alloc.FlushRcid = 3 to 3
+allocOps Bandwidth alloc.Reserved = 3 to 23
+allocOps Capacity alloc.Reserved = 4 to 23
+allocOps resource alloc.Custom = 24 to 31
 
 -- OP of mon_ctl: Table 9 of the bandwidth controller, and Table 3 of the capacity controller, with the same rows
 unfoldable pub monOps : MonOp → Codes

@@ -1,14 +1,15 @@
 // Operation and event codes as the standard lists them: the rows of its tables, and the row in which a code stands.
-ghost use Prim.Native.Nat.{_<_};
+ghost use Prim.Native.Nat.{_≤_, _<_};
 ghost use lib.Dec.{T};
 ghost use Rattle.codes.specs.Codes.{_has_, allocOps, monOps, bandwidthEvents, capacityEvents};
 ghost use Rattle.codes.specs.Claims.{Tables};
 
-// OP of alloc_ctl: capacity (Table 6) and bandwidth (Table 12) allocation operations.
+// OP of alloc_ctl: capacity (Table 6) and bandwidth (Table 12) allocation operations; FLUSH_RCID is one of capacity alone.
 pub enum AllocOp {
     ReservedZero,
     ConfigLimit,
     ReadLimit,
+    FlushRcid,
     Reserved,
     Custom,
 }
@@ -40,22 +41,39 @@ pub enum CapacityEvent {
     Custom,
 }
 
-// The two controllers by what they share out, as their tables of events differ.
+// The two controllers by what they share out, as their tables of operations and of events differ.
 pub enum Resource {
     Bandwidth,
     Capacity,
 }
 
+// The row of OP 3 to 23 of alloc_ctl: where the tables of the two controllers differ.
+fn upper_op(resource: Resource, op: u64) -> AllocOp
+    requires { ⌜ (3 ≤ op) × (op ≤ 23) ⌝ }
+    ensures { λ r. ⌜ T (allocOps resource r has op) ⌝ }
+{
+    match resource {
+        Resource::Bandwidth => AllocOp::Reserved,
+        Resource::Capacity => {
+            if op == 3 {
+                AllocOp::FlushRcid
+            } else {
+                AllocOp::Reserved
+            }
+        }
+    }
+}
+
 // The row of an OP of alloc_ctl, which has five bits.
-pub fn alloc_op(op: u64) -> AllocOp
+pub fn alloc_op(resource: Resource, op: u64) -> AllocOp
     requires { ⌜ op < 32 ⌝ }
-    ensures { λ r. ⌜ T (allocOps r has op) ⌝ }
+    ensures { λ r. ⌜ T (allocOps resource r has op) ⌝ }
 {
     match op {
         0 => AllocOp::ReservedZero,
         1 => AllocOp::ConfigLimit,
         2 => AllocOp::ReadLimit,
-        3..=23 => AllocOp::Reserved,
+        3..=23 => upper_op(resource, op),
         24..=31 => AllocOp::Custom,
         _ => AllocOp::Custom,
     }

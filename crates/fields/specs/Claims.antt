@@ -43,6 +43,7 @@ pub record Packing : Type 0 where
   pub iommuQosid : Register reg.iommuQosid 28 0xfff0fff
   pub dcTa : Register reg.dcTa 64 0xffff_ff00_0000_0000
   pub waiter : Register reg.waiter 44 0xfff_ffff_ffff
+  pub owner : Register reg.owner 20 0xfffff
   -- with NA = 1 the bits of AT and ATV are dropped too
   pub allocCtl1 : (word : ℕ) (r : AllocCtl) → Unpacked reg.allocCtl word (ofAllocCtl r)
       → pack reg.allocCtl (ofAllocCtl (heldAllocCtl 1 r)) ≡ bitAnd word 0xff000fff1f

@@ -15,6 +15,7 @@ use Rattle.fields.specs.declared.CounterSetting.{CounterSetting}
 use Rattle.fields.specs.declared.IommuQosid.{IommuQosid}
 use Rattle.fields.specs.declared.DcTa.{DcTa}
 use Rattle.fields.specs.declared.Waiter.{Waiter}
+use Rattle.fields.specs.declared.Owner.{Owner}
 
 -- there is one value for each field, and it fits
 abbrev pub InRange : List Place → List ℕ → Type 0
@@ -62,6 +63,9 @@ ofDcTa r = r .mcid ∷ r .rcid ∷ []
 
 abbrev pub ofWaiter : Waiter → List ℕ
 ofWaiter r = r .write ∷ r .at ∷ r .mcid ∷ r .need ∷ []
+
+abbrev pub ofOwner : Owner → List ℕ
+ofOwner r = r .owned ∷ r .at ∷ r .mcid ∷ r .rcid ∷ []
 
 -- with NA = 1 the AT and ATV fields are held as 0
 abbrev pub heldAllocCtl : ℕ → AllocCtl → AllocCtl

@@ -22,6 +22,7 @@ packing = record {
   iommuQosid = record { ordered = reg.iommuQosid-ordered; names = refl };
   dcTa = record { ordered = reg.dcTa-ordered; names = refl };
   waiter = record { ordered = reg.waiter-ordered; names = refl };
+  owner = record { ordered = reg.owner-ordered; names = refl };
   allocCtl1 = λ w r u. cc (reg.allocCtl-kept-1 w);
   monCtl1 = λ w r u. cc (reg.monCtl-kept-1 w);
 }

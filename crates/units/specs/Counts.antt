@@ -1,0 +1,25 @@
+-- What fills, evictions and flushes of units count, in counts of any type: the controller's counters and a tally follow one rule.
+use Rattle.access.specs.Logic.{Bool, List, ℕ, getD, set, if_then_else_, _‼_}
+use mathlib.Core.List.{foldl}
+use Rattle.fields.specs.Layout.{get}
+use Rattle.fields.specs.Registers as reg
+use Rattle.monitor.specs.Occupancy.{countsBlock}
+use Rattle.units.specs.Owners.{isOwned, ofRcid}
+
+-- a count of none, and the counter settings
+module _ {C : Type 0} (none : C) (settings : List ℕ) where
+  -- the count of an MCID changes where its setting matches the AT
+  unfoldable pub noted : (C → C) → List C → ℕ → ℕ → List C
+  noted change counts mcid at = if countsBlock (settings ‼ mcid) at then set counts mcid (change (getD counts mcid none)) else counts
+
+  -- an emptied unit counts for its owner, a free one for nobody
+  unfoldable pub emptied : (C → C) → List C → ℕ → List C
+  emptied evict counts owner = if isOwned owner then noted evict counts (get reg.ownerMcid owner) (get reg.ownerAt owner) else counts
+
+  -- a fill over an owned unit empties it first
+  unfoldable pub refilled : (C → C) → (C → C) → List C → ℕ → ℕ → ℕ → List C
+  refilled fill evict counts owner mcid at = noted fill (emptied evict counts owner) mcid at
+
+  -- a flush counts each unit of the RCID for its owner
+  unfoldable pub flushed : (C → C) → ℕ → List ℕ → List C → List C
+  flushed evict rcid owners counts = foldl (λ k owner. if ofRcid rcid owner then emptied evict k owner else k) counts owners
