@@ -1,5 +1,5 @@
 -- What is claimed of the capacity controller after any list of calls that an accepted reset opens, by the ledger.
-use Rattle.access.specs.Logic.{_≡_, Bool, List, ℕ}
+use Rattle.access.specs.Logic.{_≡_, Bool, List, ℕ, _‼_}
 use Rattle.runs.specs.Runs.{Machine, stepOf, Always}
 use Rattle.runs.specs.Claims.{Book, whole, Reads, AllCounted, Lasting}
 use Rattle.runs.specs.ByNumber as number
@@ -10,8 +10,8 @@ use Rattle.access.specs.Pairs.{wordAt, withSetting, knownAt}
 use Rattle.allocation.specs.Allocation.{allocWord}
 use Rattle.monitor.specs.Monitor.{monStatus}
 use Rattle.codes.specs.declared.Resource.the-variants.{Capacity}
-use Rattle.capacity_model.specs.Rules.{Setup, hasBlock, badMask, limitOf, allocStatus}
-use Rattle.capacity_model.specs.Calls.{Call, kindOf, reset, read, write, fill, Answer, refused, value, allowed}
+use Rattle.capacity_model.specs.Rules.{Setup, blockOf, hasBlock, badMask, limitOf, allocStatus}
+use Rattle.capacity_model.specs.Calls.{Call, kindOf, reset, read, write, fill, evict, Answer, refused, value, allowed}
 use Rattle.capacity_model.specs.Model.{State, setupChecks, argumentChecks, capabilities, writeAlloc, refusal, perform}
 use Rattle.capacity_model.specs.Ledger.{Ledger, accepted, started, noteCall, settingsBy, counter, tally}
 
@@ -37,6 +37,7 @@ isReset c = checks.isReset (kindOf c)
 abbrev pub book : Book State Setup Call Answer Ledger ℕ
 book = record {
   keeper = record { start = started; noteCall = noteCall };
+  resource = Capacity;
   na = λ l. l .setup .na;
   capabilities = λ l. capabilities (l .setup);
   operand = λ l. l .mask;
@@ -48,14 +49,18 @@ book = record {
   wordOf = λ mask. mask;
 }
 
--- ---- masks; the state s and the ledger l
+-- ---- masks and owners; the state s and the ledger l
 pub record Claim (s : State) (l : Ledger) : Type 0 where
   -- all masks are the ledger's, and so is block_mask as it is read
   pub masks : s .alloc .masks ≡ l .masks
   pub reads : Reads controller s access.operand (l .mask)
-  -- a fill is allowed exactly where the pair's mask, by the ledger, has the block
-  pub fills : (rcid mcid at block : ℕ) (b : Bool) → stepOf controller s (fill rcid mcid at block) .answer ≡ allowed b
-      → b ≡ hasBlock (wordAt (l .setup .na) (l .masks) rcid (knownAt (l .setup .na) at)) block
+  -- a fill is allowed exactly where the pair's mask, by the ledger, has the unit's block
+  pub fills : (rcid mcid at unit : ℕ) (b : Bool) → stepOf controller s (fill rcid mcid at unit) .answer ≡ allowed b
+      → b ≡ hasBlock (wordAt (l .setup .na) (l .masks) rcid (knownAt (l .setup .na) at)) (blockOf (l .setup) unit)
+  -- the owner of every unit is the ledger's
+  pub owners : s .owners ≡ l .owners
+  -- an eviction of a free unit changes nothing
+  pub free : (unit : ℕ) → l .owners ‼ unit ≡ 0 → stepOf controller s (evict unit) .state ≡ s
   -- an accepted mask that stands is in the table, and reads back
   pub settings : Lasting controller book whole s l
 
@@ -72,7 +77,7 @@ AllocByNumber =
     (su : Setup) (mask : ℕ) (masks : List ℕ) (v : ℕ)
     → (let bad = badMask mask in
     writeAlloc su mask masks v ≡ record {
-      ctl = allocWord (su .na) v reg.idle (number.operationStatus (su .nr) (su .na) bad v);
-      mask = number.operandAfter (su .nr) (su .na) bad masks mask v;
-      masks = number.tableAfter (su .nr) (su .na) bad masks (withSetting (su .na) masks (limitOf su mask v)) v;
+      ctl = allocWord (su .na) v reg.idle (number.operationStatus Capacity (su .nr) (su .na) bad v);
+      mask = number.operandAfter Capacity (su .nr) (su .na) bad masks mask v;
+      masks = number.tableAfter Capacity (su .nr) (su .na) bad masks (withSetting (su .na) masks (limitOf su mask v)) v;
     })

@@ -1,1 +1,4 @@
 -- The laws that other crates cite.
+pub mod Owners
+pub mod Counts
+pub mod Occupied
