@@ -1,5 +1,5 @@
 -- A code in a row; tables whose rows follow each other, from 0 to the end of the field, which have each code in exactly one row.
-use mathlib.Core.Path.{_≡_, subst}
+use mathlib.Core.Path.{_≡_, sym, subst, _∙_}
 use mathlib.Core.Bool.{Bool, true, false, not, _&&_, _||_}
 use mathlib.Core.List.{List, [], _∷_, List·Memᴰ, List·Memᴰ·cases-cons, List·Memᴰ·not-nil}
 use mathlib.Core.Logic.{_⊎_, inl, inr}
@@ -40,7 +40,11 @@ single-above n code h = is-false ((n to n) has code) (not-in ((n to n) has code)
 pub found : {X : Type 0} (table : X → Codes) (s : X) {r : X} (code : ℕ) → r ≡ s → T (table r has code) → T (table s has code)
 found {X = X} table s code e t = subst (λ (x : X). T (table x has code)) e t
 
--- OP of the reserved row above 2 or of the custom row, in either control register: neither operation, and invalid
+-- two rows of a table that have a code are one
+pub one-row : {X : Type 0} {table : X → Codes} {end : ℕ} → EachInOneRow table end → (r s : X) (code : ℕ) → T (table r has code) → T (table s has code) → r ≡ s
+one-row one r s code t u = let o = one .each code (one .below r code t) in o .only r t ∙ sym (o .only s u)
+
+-- OP of the reserved row above 2 or of the custom row of mon_ctl: neither operation, and invalid
 pub record OtherOp (op : ℕ) : Type 0 where
   pub not1 : (1 to 1) has op ≡ false
   pub not2 : (2 to 2) has op ≡ false
@@ -128,9 +132,9 @@ module _ {X : Type 0} (table : X → Codes) where
           next s u (inl e) = absurd (omega (arith, nleb→lt code (table r .last) l, le-last (table r) code (rw e at u)))
           next s u (inr i) = a .only s i u
 
-  -- rows that follow each other from 0 and are all that there are
-  pub each-in-one : (rs : List X) (end : ℕ) → T (follow 0 rs end) → ((r : X) → List·Memᴰ r rs) → EachInOneRow table end
+  -- rows that follow each other from 0, and no other row has a code
+  pub each-in-one : (rs : List X) (end : ℕ) → T (follow 0 rs end) → ((r : X) (code : ℕ) → T (table r has code) → List·Memᴰ r rs) → EachInOneRow table end
   each-in-one rs end t every = record {
-    each = λ code h. let a = among 0 rs end t code (omega arith) h in record { row = a .row; stands = a .stands; only = λ r u. a .only r (every r) u };
-    below = λ r code u. omega (arith, inside 0 rs end t r (every r) .1, le-last (table r) code u);
+    each = λ code h. let a = among 0 rs end t code (omega arith) h in record { row = a .row; stands = a .stands; only = λ r u. a .only r (every r code u) u };
+    below = λ r code u. omega (arith, inside 0 rs end t r (every r code u) .1, le-last (table r) code u);
   }

@@ -1,8 +1,16 @@
--- The four tables: their rows follow each other and fill the field.
-use mathlib.Core.Path.{refl}
+-- The tables: their rows follow each other and fill the field.
+use mathlib.Core.Path.{_≡_, refl, ap}
+use mathlib.Core.Bool.{Bool}
 use mathlib.Core.List.{List, [], _∷_, List·Memᴰ, List·Memᴰ·head, List·Memᴰ·tail}
-use Rattle.codes.specs.Codes.{allocOps, monOps, bandwidthEvents, capacityEvents}
+use Prim.Native.Nat.{ℕ}
+use native.Mathlib.Omega.{arith}
+use lib.Dec.{T, eqb, eqb→eq}
+use Rattle.tables.specs.Below.{between}
+use Rattle.tables.proofs.Tests.{same-test, eqb-in}
+use Rattle.codes.specs.Codes.{_has_, noCode, allocOps, monOps, bandwidthEvents, capacityEvents}
 use Rattle.codes.specs.Claims.{EachInOneRow, Tables}
+use Rattle.codes.specs.declared.Resource.{Resource}
+use Rattle.codes.specs.declared.Resource.the-variants.{Bandwidth, Capacity}
 use Rattle.codes.specs.declared.AllocOp.{AllocOp}
 use Rattle.codes.specs.declared.AllocOp.the-variants as alloc
 use Rattle.codes.specs.declared.MonOp.{MonOp}
@@ -11,28 +19,62 @@ use Rattle.codes.specs.declared.BandwidthEvent.{BandwidthEvent}
 use Rattle.codes.specs.declared.BandwidthEvent.the-variants as bandwidth
 use Rattle.codes.specs.declared.CapacityEvent.{CapacityEvent}
 use Rattle.codes.specs.declared.CapacityEvent.the-variants as capacity
-use Rattle.codes.proofs.Rows.{each-in-one}
+use Rattle.codes.proofs.Rows.{first-le, le-last, found, one-row, each-in-one}
 
-abbrev allocRows : List AllocOp
-allocRows = alloc.ReservedZero ∷ alloc.ConfigLimit ∷ alloc.ReadLimit ∷ alloc.Reserved ∷ alloc.Custom ∷ []
+-- the rows with a code
+abbrev allocRows : Resource → List AllocOp
+allocRows Bandwidth = alloc.ReservedZero ∷ alloc.ConfigLimit ∷ alloc.ReadLimit ∷ alloc.Reserved ∷ alloc.Custom ∷ []
+allocRows Capacity = alloc.ReservedZero ∷ alloc.ConfigLimit ∷ alloc.ReadLimit ∷ alloc.FlushRcid ∷ alloc.Reserved ∷ alloc.Custom ∷ []
 
-pub alloc-in-one : EachInOneRow allocOps 32
+pub alloc-in-one : (resource : Resource) → EachInOneRow (allocOps resource) 32
 unfolding allocOps
-alloc-in-one = each-in-one allocOps allocRows 32 tt every
+alloc-in-one Bandwidth = each-in-one (allocOps Bandwidth) (allocRows Bandwidth) 32 tt every
   where
-    every : (r : AllocOp) → List·Memᴰ r allocRows
+    every : (r : AllocOp) (op : ℕ) → T (allocOps Bandwidth r has op) → List·Memᴰ r (allocRows Bandwidth)
+    every alloc.ReservedZero op t = List·Memᴰ·head refl
+    every alloc.ConfigLimit op t = search (List·Memᴰ·head, List·Memᴰ·tail) depth 7
+    every alloc.ReadLimit op t = search (List·Memᴰ·head, List·Memᴰ·tail) depth 7
+    every alloc.FlushRcid op t = absurd (omega (arith, first-le noCode op t, le-last noCode op t))
+    every alloc.Reserved op t = search (List·Memᴰ·head, List·Memᴰ·tail) depth 7
+    every alloc.Custom op t = search (List·Memᴰ·head, List·Memᴰ·tail) depth 7
+alloc-in-one Capacity = each-in-one (allocOps Capacity) (allocRows Capacity) 32 tt (λ r op t. every r)
+  where
+    every : (r : AllocOp) → List·Memᴰ r (allocRows Capacity)
     every alloc.ReservedZero = List·Memᴰ·head refl
-    every alloc.ConfigLimit = search (List·Memᴰ·head, List·Memᴰ·tail) depth 7
-    every alloc.ReadLimit = search (List·Memᴰ·head, List·Memᴰ·tail) depth 7
-    every alloc.Reserved = search (List·Memᴰ·head, List·Memᴰ·tail) depth 7
-    every alloc.Custom = search (List·Memᴰ·head, List·Memᴰ·tail) depth 7
+    every alloc.ConfigLimit = search (List·Memᴰ·head, List·Memᴰ·tail) depth 8
+    every alloc.ReadLimit = search (List·Memᴰ·head, List·Memᴰ·tail) depth 8
+    every alloc.FlushRcid = search (List·Memᴰ·head, List·Memᴰ·tail) depth 8
+    every alloc.Reserved = search (List·Memᴰ·head, List·Memᴰ·tail) depth 8
+    every alloc.Custom = search (List·Memᴰ·head, List·Memᴰ·tail) depth 8
+
+-- every row has a code in the capacity controller's table
+has-first : (r : AllocOp) → T (allocOps Capacity r has allocOps Capacity r .first)
+unfolding allocOps _has_ between
+has-first alloc.ReservedZero = tt
+has-first alloc.ConfigLimit = tt
+has-first alloc.ReadLimit = tt
+has-first alloc.FlushRcid = tt
+has-first alloc.Reserved = tt
+has-first alloc.Custom = tt
+
+-- so that its first code there tells it from the others
+abbrev pub same : AllocOp → AllocOp → Bool
+same r s = eqb (allocOps Capacity r .first) (allocOps Capacity s .first)
+
+-- an OP of one row is in another exactly where that is the same
+pub alloc-told : (resource : Resource) (r : AllocOp) (op : ℕ) → T (allocOps resource r has op) → (s : AllocOp) → allocOps resource s has op ≡ same r s
+alloc-told resource r op t s =
+    let code : AllocOp → ℕ = λ x. allocOps Capacity x .first in
+    same-test (allocOps resource s has op) (same r s)
+    (λ u. eqb-in (code r) (code s) (ap code (one-row (alloc-in-one resource) r s op t u)))
+    (λ u. found (allocOps resource) s op (one-row (alloc-in-one Capacity) r s (code s) (rw (← eqb→eq (code r) (code s) u) (has-first r)) (has-first s)) t)
 
 abbrev monRows : List MonOp
 monRows = mon.ReservedZero ∷ mon.ConfigEvent ∷ mon.ReadCounter ∷ mon.Reserved ∷ mon.Custom ∷ []
 
 pub mon-in-one : EachInOneRow monOps 32
 unfolding monOps
-mon-in-one = each-in-one monOps monRows 32 tt every
+mon-in-one = each-in-one monOps monRows 32 tt (λ r code t. every r)
   where
     every : (r : MonOp) → List·Memᴰ r monRows
     every mon.ReservedZero = List·Memᴰ·head refl
@@ -46,7 +88,7 @@ bandwidthRows = bandwidth.None ∷ bandwidth.TotalReadWrite ∷ bandwidth.TotalR
 
 pub bandwidth-in-one : EachInOneRow bandwidthEvents 256
 unfolding bandwidthEvents
-bandwidth-in-one = each-in-one bandwidthEvents bandwidthRows 256 tt every
+bandwidth-in-one = each-in-one bandwidthEvents bandwidthRows 256 tt (λ r code t. every r)
   where
     every : (r : BandwidthEvent) → List·Memᴰ r bandwidthRows
     every bandwidth.None = List·Memᴰ·head refl
@@ -61,7 +103,7 @@ capacityRows = capacity.None ∷ capacity.Occupancy ∷ capacity.Reserved ∷ ca
 
 pub capacity-in-one : EachInOneRow capacityEvents 256
 unfolding capacityEvents
-capacity-in-one = each-in-one capacityEvents capacityRows 256 tt every
+capacity-in-one = each-in-one capacityEvents capacityRows 256 tt (λ r code t. every r)
   where
     every : (r : CapacityEvent) → List·Memᴰ r capacityRows
     every capacity.None = List·Memᴰ·head refl

@@ -10,9 +10,10 @@ unfolding allocOps
 alloc-op-spec =
     tie.close
     (tie.spec
+    (λ c κs. (omega arith, omega arith))
     (λ c. has-in _ _ (omega arith) (omega arith))
     (λ c. has-in _ _ (omega arith) (omega arith))
     (λ c. has-in _ _ (omega arith) (omega arith))
-    (λ c. has-in _ _ (omega arith) (omega arith))
+    (λ c. c .upper-op .ensures)
     (λ c. has-in _ _ (omega arith) (omega arith))
     (λ c. has-in _ _ (omega arith) (omega arith)))
