@@ -18,7 +18,7 @@ use Rattle.runs.proofs.Settings.{storing, anew, none, sets-if, Settings}
 use Rattle.runs.proofs.Registers.{Parts, Registered, Agrees, Invariants, statusIn, monStatusIn}
 use Rattle.capacity_model.specs.Rules.{pairs, badMask, allocSucceeds, limitOf}
 use Rattle.capacity_model.specs.Calls.{Call, kindOf}
-use Rattle.capacity_model.specs.Model.{State, Allocation, registers, register, readAt, afterReset, writeAlloc, writeMask, writeAt, perform}
+use Rattle.capacity_model.specs.Model.{State, Allocation, registers, register, readAt, afterReset, writeAlloc, allocWritten, writeMask, writeAt, perform}
 use Rattle.capacity_model.specs.Rules.{Setup}
 use Rattle.capacity_model.specs.Ledger.{Ledger, accepted, settingsBy, Count, tally}
 use Rattle.capacity_model.specs.Claim.{controller, book}
@@ -41,7 +41,7 @@ parts = record {
 
 module _ (s : State) where
   alloc-ctl : (c : Call) → perform s c .state .alloc .ctl ≡ controlAfter access.allocCtl (λ v. allocWord (s .setup .na) v 0 (statusIn parts s v)) (s .alloc .ctl) (kindOf c)
-  unfolding controlAfter afterReset writeAlloc writeMask
+  unfolding controlAfter afterReset allocWritten writeAlloc writeMask
   alloc-ctl =
       let word : ℕ → ℕ = λ v. allocWord (s .setup .na) v 0 (statusIn parts s v) in
       call-by s (λ k s′. s′ .alloc .ctl ≡ controlAfter access.allocCtl word (s .alloc .ctl) k) (λ su. refl)
@@ -49,14 +49,14 @@ module _ (s : State) where
       (λ s′ k. ap (λ (a : Allocation). a .ctl) (k .alloc))
 
   mon-ctl : (c : Call) → perform s c .state .monitor .ctl ≡ controlAfter access.monCtl (λ v. monWord (s .setup .na) v 0 (monStatusIn parts s v)) (s .monitor .ctl) (kindOf c)
-  unfolding controlAfter afterReset cleared writeMon
+  unfolding controlAfter afterReset allocWritten cleared writeMon
   mon-ctl =
       let word : ℕ → ℕ = λ v. monWord (s .setup .na) v 0 (monStatusIn parts s v) in
       call-by s (λ k s′. s′ .monitor .ctl ≡ controlAfter access.monCtl word (s .monitor .ctl) k) (λ su. refl)
       (λ size offset v. write-by s (λ x y z t. t .monitor .ctl ≡ cond z (word v) (s .monitor .ctl)) size offset v refl refl refl refl) (λ s′ k. k .ctl)
 
 pub registered : Registered controller parts
-unfolding perform readAt register writeAt writeAlloc accepted
+unfolding perform readAt register writeAt allocWritten writeAlloc accepted
 registered = record {
   accepting = accepting;
   resets-kind = λ u. refl;
@@ -75,7 +75,7 @@ abbrev Sets : State → State → List (Setting ℕ) → Bool → Type 0
 Sets = shared.Sets (parts .setup) (storing (parts .nr) (parts .na)) (parts .table)
 
 sets-call : (s : State) (c : Call) → Sets s (perform s c .state) (settingsBy (ledgerBy s) c) (isReset (kindOf c))
-unfolding settingsBy writeAlloc writeMask tableAfter
+unfolding settingsBy allocWritten writeAlloc writeMask tableAfter
 sets-call s =
     let su = s .setup in
     let mask = s .alloc .mask in
@@ -107,7 +107,7 @@ pub invariants : Invariants controller parts book tally Inv Counts
 invariants = record {
   inv = keeps;
   first = λ s su e. counts-first s su;
-  next = λ s l t i k c. counts-next s t (ranges (s .setup) (i .good .setup) .w-high) k c;
+  next = λ s l t i k c. counts-next s l t (i .same) (ranges (s .setup) (i .good .setup) .w-high) k c;
   agrees = agreeing;
   shown = λ s t k. sym (ap (λ (x : Tally Setup Count). x .shown) (k .same));
 }

@@ -3,6 +3,7 @@ use mathlib.Core.Path.{_≡_, refl, sym, ap, subst, _∙_}
 use mathlib.Core.Bool.{Bool, true, false, not, cond, _&&_}
 use mathlib.Core.List.{List, [], _∷_}
 use Prim.Native.Nat.{ℕ, _+_, _≤_, _<_}
+use native.Mathlib.Nat.{zero-add}
 use native.Mathlib.Omega.{arith}
 use lib.Dec.{T, eqb, eqb→eq}
 use lib.ListN.{length, getD, set, length-set}
@@ -68,7 +69,7 @@ module _ {C : Type 0} (none : C) (settings : List ℕ) (P : ℕ → C → Type 0
         cases (λ y. Has (n + countOf (ofMcid mcid) (cond y 0 o ∷ flushedOwners rcid os)) (flushed none settings down rcid os (cond y (emptied none settings down counts o) counts)))
         (ofRcid rcid o)
         (λ y. let e : n + (b + rest) ≡ n + rest + b = omega arith in
-        rw (count-cons (ofMcid mcid) 0 (flushedOwners rcid os), free-mcid mcid)
+        rw (count-cons (ofMcid mcid) 0 (flushedOwners rcid os), free-mcid mcid, zero-add)
         (flushed-has rcid n os (emptied none settings down counts o) (emptied-has (n + rest) counts o (rw (there, e) at h))))
         (λ y. let e : n + (b + rest) ≡ n + b + rest = omega arith in
         let q : n + b + unitsOf mcid (flushedOwners rcid os) ≡ n + (b + unitsOf mcid (flushedOwners rcid os)) = omega arith in
@@ -79,7 +80,7 @@ module _ {C : Type 0} (none : C) (settings : List ℕ) (P : ℕ → C → Type 0
       -- an eviction leaves the other units of the MCID
       freed : unitsOf mcid (set owners unit 0) + cond (ofMcid mcid (getD owners unit 0)) 1 0 ≡ unitsOf mcid owners
       unfolding unitsOf
-      freed = count-set (ofMcid mcid) owners unit 0 inside ∙ rw (free-mcid mcid) refl
+      freed = count-set (ofMcid mcid) owners unit 0 inside ∙ rw (free-mcid mcid) (zero-add _)
 
       pub evicted-has : (counts : List C) → Has (unitsOf mcid owners) counts → Has (unitsOf mcid (set owners unit 0)) (emptied none settings down counts (getD owners unit 0))
       evicted-has counts h = emptied-has (unitsOf mcid (set owners unit 0)) counts (getD owners unit 0) (rw freed h)
