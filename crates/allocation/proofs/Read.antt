@@ -11,6 +11,7 @@ use Rattle.fields.specs.Registers.{allocCtl, heldAt}
 use Rattle.fields.proofs.Registers.{allocCtl-fields, held-held}
 use Rattle.tables.proofs.Tests.{and-l, and-r, and-in, eqb-in, or-l}
 use Rattle.access.specs.Pairs.{Setting, ofPair, anyOf}
+use Rattle.codes.specs.declared.Resource.{Resource}
 use Rattle.codes.specs.declared.AllocOp.the-variants.{ConfigLimit}
 use Rattle.allocation.specs.Allocation.{performs, opOf, rcidOf, atOf, statusOf, allocWord, operationStatus, succeeds}
 use Rattle.allocation.proofs.Operations.{status-lt}
@@ -24,10 +25,10 @@ sets-own true q =
     (λ t. tt, λ t. or-l (r && a) false (and-in r a (eqb-in (q .rcid) (q .rcid) refl) (eqb-in (q .at) (q .at) refl)))
 sets-own false q = (λ t. t, λ t. t)
 
-module _ (nr na : ℕ) (bad : Bool) (v x : ℕ) (e : x ≡ allocWord na v 0 (operationStatus nr na bad v)) where
-  pub read-fields : unpack allocCtl x ≡ 0 ∷ operationStatus nr na bad v ∷ rcidOf v ∷ atOf na v ∷ opOf v ∷ []
+module _ (resource : Resource) (nr na : ℕ) (bad : Bool) (v x : ℕ) (e : x ≡ allocWord na v 0 (operationStatus resource nr na bad v)) where
+  pub read-fields : unpack allocCtl x ≡ 0 ∷ operationStatus resource nr na bad v ∷ rcidOf v ∷ atOf na v ∷ opOf v ∷ []
   unfolding allocWord rcidOf atOf opOf
-  read-fields = ap (unpack allocCtl) e ∙ allocCtl-fields na v (operationStatus nr na bad v) (status-lt nr na bad v)
+  read-fields = ap (unpack allocCtl) e ∙ allocCtl-fields na v (operationStatus resource nr na bad v) (status-lt resource nr na bad v)
 
   op-is : opOf x ≡ opOf v
   unfolding opOf
@@ -41,25 +42,25 @@ module _ (nr na : ℕ) (bad : Bool) (v x : ℕ) (e : x ≡ allocWord na v 0 (ope
   unfolding rcidOf
   rcid-is = ap (λ (l : List ℕ). getD l 2 0) read-fields
 
-  status-is : statusOf x ≡ operationStatus nr na bad v
+  status-is : statusOf x ≡ operationStatus resource nr na bad v
   unfolding statusOf
   status-is = ap (λ (l : List ℕ). getD l 1 0) read-fields
 
   -- the row of OP is the one of the value written
-  op-same : performs ConfigLimit x ≡ performs ConfigLimit v
+  op-same : performs resource ConfigLimit x ≡ performs resource ConfigLimit v
   unfolding performs
   op-same = rw op-is refl
 
   -- CONFIG_LIMIT made the setting exactly where it is read with STATUS 1
   pub read-sets : {X : Type 0} (value : X)
-      → T (anyOf (ofPair (rcidOf x) (atOf na x)) (cond (succeeds nr na bad ConfigLimit v) (record { rcid = rcidOf v; at = atOf na v; value = value } ∷ []) []))
-      ↔ (T (performs ConfigLimit x) × (statusOf x ≡ 1))
+      → T (anyOf (ofPair (rcidOf x) (atOf na x)) (cond (succeeds resource nr na bad ConfigLimit v) (record { rcid = rcidOf v; at = atOf na v; value = value } ∷ []) []))
+      ↔ (T (performs resource ConfigLimit x) × (statusOf x ≡ 1))
   unfolding succeeds
   read-sets value =
-      let op = performs ConfigLimit v in
-      let st = eqb (operationStatus nr na bad v) 1 in
-      let own = sets-own (succeeds nr na bad ConfigLimit v) (record { rcid = rcidOf v; at = atOf na v; value = value }) in
+      let op = performs resource ConfigLimit v in
+      let st = eqb (operationStatus resource nr na bad v) 1 in
+      let own = sets-own (succeeds resource nr na bad ConfigLimit v) (record { rcid = rcidOf v; at = atOf na v; value = value }) in
       rw (rcid-is, at-is, op-same) (
-        λ t. let d = own .0 t in (and-l op st d, status-is ∙ eqb→eq (operationStatus nr na bad v) 1 (and-r op st d)),
-        λ h. own .1 (and-in op st (h .0) (eqb-in (operationStatus nr na bad v) 1 (sym status-is ∙ h .1))),
+        λ t. let d = own .0 t in (and-l op st d, status-is ∙ eqb→eq (operationStatus resource nr na bad v) 1 (and-r op st d)),
+        λ h. own .1 (and-in op st (h .0) (eqb-in (operationStatus resource nr na bad v) 1 (sym status-is ∙ h .1))),
       )

@@ -1,11 +1,11 @@
 -- The tables: their rows follow each other and fill the field.
-use mathlib.Core.Path.{_≡_, refl, ap}
+use mathlib.Core.Path.{_≡_, refl, sym, ap, _∙_}
 use mathlib.Core.Bool.{Bool}
 use mathlib.Core.List.{List, [], _∷_, List·Memᴰ, List·Memᴰ·head, List·Memᴰ·tail}
 use Prim.Native.Nat.{ℕ}
 use native.Mathlib.Omega.{arith}
 use lib.Dec.{T, eqb, eqb→eq}
-use Rattle.tables.specs.Below.{between}
+use lib.ListN.{getD}
 use Rattle.tables.proofs.Tests.{same-test, eqb-in}
 use Rattle.codes.specs.Codes.{_has_, noCode, allocOps, monOps, bandwidthEvents, capacityEvents}
 use Rattle.codes.specs.Claims.{EachInOneRow, Tables}
@@ -47,27 +47,32 @@ alloc-in-one Capacity = each-in-one (allocOps Capacity) (allocRows Capacity) 32 
     every alloc.Reserved = search (List·Memᴰ·head, List·Memᴰ·tail) depth 8
     every alloc.Custom = search (List·Memᴰ·head, List·Memᴰ·tail) depth 8
 
--- every row has a code in the capacity controller's table
-has-first : (r : AllocOp) → T (allocOps Capacity r has allocOps Capacity r .first)
-unfolding allocOps _has_ between
-has-first alloc.ReservedZero = tt
-has-first alloc.ConfigLimit = tt
-has-first alloc.ReadLimit = tt
-has-first alloc.FlushRcid = tt
-has-first alloc.Reserved = tt
-has-first alloc.Custom = tt
+-- a row by its number
+abbrev pub number : AllocOp → ℕ
+number alloc.ReservedZero = 0
+number alloc.ConfigLimit = 1
+number alloc.ReadLimit = 2
+number alloc.FlushRcid = 3
+number alloc.Reserved = 4
+number alloc.Custom = 5
 
--- so that its first code there tells it from the others
+numbered : (r : AllocOp) → getD (allocRows Capacity) (number r) alloc.Custom ≡ r
+numbered alloc.ReservedZero = refl
+numbered alloc.ConfigLimit = refl
+numbered alloc.ReadLimit = refl
+numbered alloc.FlushRcid = refl
+numbered alloc.Reserved = refl
+numbered alloc.Custom = refl
+
 abbrev pub same : AllocOp → AllocOp → Bool
-same r s = eqb (allocOps Capacity r .first) (allocOps Capacity s .first)
+same r s = eqb (number r) (number s)
 
 -- an OP of one row is in another exactly where that is the same
 pub alloc-told : (resource : Resource) (r : AllocOp) (op : ℕ) → T (allocOps resource r has op) → (s : AllocOp) → allocOps resource s has op ≡ same r s
 alloc-told resource r op t s =
-    let code : AllocOp → ℕ = λ x. allocOps Capacity x .first in
     same-test (allocOps resource s has op) (same r s)
-    (λ u. eqb-in (code r) (code s) (ap code (one-row (alloc-in-one resource) r s op t u)))
-    (λ u. found (allocOps resource) s op (one-row (alloc-in-one Capacity) r s (code s) (rw (← eqb→eq (code r) (code s) u) (has-first r)) (has-first s)) t)
+    (λ u. eqb-in (number r) (number s) (ap number (one-row (alloc-in-one resource) r s op t u)))
+    (λ u. found (allocOps resource) s op (sym (numbered r) ∙ ap (λ (n : ℕ). getD (allocRows Capacity) n alloc.Custom) (eqb→eq (number r) (number s) u) ∙ numbered s) t)
 
 abbrev monRows : List MonOp
 monRows = mon.ReservedZero ∷ mon.ConfigEvent ∷ mon.ReadCounter ∷ mon.Reserved ∷ mon.Custom ∷ []

@@ -1,20 +1,17 @@
 -- `allocation::effect_of` meets its contract.
 use borrow.Author.Needs.{needs}
-use Rattle.tables.specs.Below.{between}
-use Rattle.codes.specs.Codes.{_has_, allocOps}
-use Rattle.codes.specs.declared.AllocOp.the-variants.{ReservedZero, ConfigLimit, ReadLimit, Reserved, Custom}
-use Rattle.codes.proofs.Rows.{code-of, found, reserved-op, custom-op}
+use Rattle.allocation.proofs.Status.{effect-by}
 use Rattle.allocation.proofs.effect_of.Statement.{statement}
 use Rattle.allocation.proofs.effect_of.Tie as tie
 
 pub effect-of-spec : {M : Type 1} → statement M
-unfolding allocOps _has_ between
 effect-of-spec =
     tie.close
     (tie.spec
-    (λ c κs. search needs) (λ c. search needs) (λ c. search needs) (λ c. search needs) (λ c. search needs) (λ c. search needs)
-    (λ c. let e = code-of 0 (c .before .before .before .args .op) (found allocOps ReservedZero _ (c .enum-told .given .1) (c .before .before .alloc-op .ensures)) in record { sets-is = rw e; reads-is = rw e })
-    (λ c. let e = code-of 1 (c .before .before .before .args .op) (found allocOps ConfigLimit _ (c .enum-told2 .given .1) (c .before .before .alloc-op .ensures)) in record { sets-is = rw e; reads-is = rw e })
-    (λ c. let e = code-of 2 (c .before .before .before .args .op) (found allocOps ReadLimit _ (c .enum-told3 .given .1) (c .before .before .alloc-op .ensures)) in record { sets-is = rw e; reads-is = rw e })
-    (λ c. let o = reserved-op (c .before .before .before .args .op) (found allocOps Reserved _ (c .enum-told4 .given .1) (c .before .before .alloc-op .ensures)) in record { sets-is = rw (o .not1); reads-is = rw (o .not2) })
-    (λ c. let o = custom-op (c .before .before .before .args .op) (found allocOps Custom _ (c .enum-told5 .given .1) (c .before .before .alloc-op .ensures)) in record { sets-is = rw (o .not1); reads-is = rw (o .not2) }))
+    (λ c κs. search needs) (λ c. search needs) (λ c. search needs) (λ c. search needs) (λ c. search needs) (λ c. search needs) (λ c. search needs)
+    (λ c. rw (c .enum-told .given .1) at (effect-by _ _ (c .before .before .before .args .status) (c .before .before .alloc-op .result) (c .before .before .alloc-op .ensures)))
+    (λ c. rw (c .enum-told2 .given .1) at (effect-by _ _ (c .before .before .before .args .status) (c .before .before .alloc-op .result) (c .before .before .alloc-op .ensures)))
+    (λ c. rw (c .enum-told3 .given .1) at (effect-by _ _ (c .before .before .before .args .status) (c .before .before .alloc-op .result) (c .before .before .alloc-op .ensures)))
+    (λ c. rw (c .enum-told4 .given .1) at (effect-by _ _ (c .before .before .before .args .status) (c .before .before .alloc-op .result) (c .before .before .alloc-op .ensures)))
+    (λ c. rw (c .enum-told5 .given .1) at (effect-by _ _ (c .before .before .before .args .status) (c .before .before .alloc-op .result) (c .before .before .alloc-op .ensures)))
+    (λ c. rw (c .enum-told6 .given .1) at (effect-by _ _ (c .before .before .before .args .status) (c .before .before .alloc-op .result) (c .before .before .alloc-op .ensures))))
