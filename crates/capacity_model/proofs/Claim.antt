@@ -2,13 +2,17 @@
 use mathlib.Core.Path.{_≡_, refl, sym, ap, _∙_}
 use mathlib.Core.Bool.{Bool}
 use Prim.Native.Nat.{ℕ}
+use lib.ListN.{getD}
 use Rattle.access.specs.Access as access
 use Rattle.access.specs.Pairs.{wordAt, knownAt, withSetting}
 use Rattle.allocation.proofs.Operations.{status-rows}
 use Rattle.monitor.specs.Tally.{Tally}
+use Rattle.monitor.specs.Occupancy.{evicted}
 use Rattle.codes.specs.declared.Resource.the-variants.{Capacity}
 use Rattle.monitor.proofs.Operations.{monStatus-rows}
 use Rattle.monitor.proofs.Tallies.{tallied-counter}
+use Rattle.units.proofs.Owners.{set-free}
+use Rattle.units.proofs.Counts.{emptied-free}
 use Rattle.runs.specs.Runs.{stepOf}
 use Rattle.runs.specs.Claims.{Counted, Answering, AllRegisterReads, Statuses}
 use Rattle.runs.proofs.Steps.{step-by}
@@ -39,7 +43,7 @@ module _ (s : State) (l : Ledger) (i : Inv s l) where
   evict-free unit e =
       let own : getD (s .owners) unit 0 ≡ 0 = ap (λ (k : Ledger). getD (k .owners) unit 0) (sym (i .same)) ∙ e in
       step-by (controller .refusal) (controller .perform) (controller .refused) s (evict unit) (λ o. o .state ≡ s)
-      (λ q. rw (own, emptied-free, set-free (s .owners) unit own) refl) (λ q. refl)
+      (λ q. rw (own, emptied-free 0 (s .monitor .events) evicted (s .monitor .counters), set-free (s .owners) unit own) refl) (λ q. refl)
 
   claim : Claim s l
   claim = record {

@@ -1,4 +1,5 @@
 -- What one change of a count keeps, an emptied unit and a flush keep: of one list of counts, or of two that stay in relation.
+use mathlib.Core.Path.{_≡_, refl}
 use mathlib.Core.Bool.{cond}
 use mathlib.Core.List.{List, [], _∷_}
 use Prim.Native.Nat.{ℕ}
@@ -7,6 +8,11 @@ use Rattle.fields.specs.Registers as reg
 use Rattle.tables.proofs.Tests.{cases}
 use Rattle.units.specs.Owners.{isOwned, ofRcid}
 use Rattle.units.specs.Counts.{noted, emptied, flushed}
+
+-- a free unit counts for nobody
+pub emptied-free : {C : Type 0} (none : C) (settings : List ℕ) (down : C → C) (counts : List C) → emptied none settings down counts 0 ≡ counts
+unfolding emptied isOwned
+emptied-free none settings down counts = refl
 
 module _ {C D : Type 0} (none : C) (zero : D) (settings : List ℕ) (down : C → C) (less : D → D) (R : List C → List D → Type 0)
     (keep : (k : List C) (d : List D) (mcid at : ℕ) → R k d → R (noted none settings down k mcid at) (noted zero settings less d mcid at)) where

@@ -1,10 +1,10 @@
 -- Words of owners: what a fill stores is well formed and reads back; a free unit is nobody's.
-use mathlib.Core.Path.{_≡_, refl, ap}
+use mathlib.Core.Path.{_≡_, refl, sym, ap}
 use mathlib.Core.Bool.{Bool, true, false, cond, _&&_}
 use mathlib.Core.List.{List, [], _∷_, map}
 use Prim.Native.Nat.{ℕ, zero, suc, _<_}
 use lib.Dec.{T, ltb, eqb, lt→ltb, lit<}
-use lib.ListN.{length, getD}
+use lib.ListN.{length, getD, set}
 use Rattle.fields.specs.Layout.{get, unpack}
 use Rattle.fields.specs.Registers as reg
 use Rattle.fields.proofs.Laws.{unpack-pack}
@@ -21,6 +21,12 @@ free-mcid mcid = refl
 pub free-ok : (nr nm na : ℕ) → T (ownerOk nr nm na 0)
 unfolding ownerOk
 free-ok nr nm na = tt
+
+-- freed, it stays as it is
+pub set-free : (owners : List ℕ) (unit : ℕ) → getD owners unit 0 ≡ 0 → set owners unit 0 ≡ owners
+set-free [] unit e = refl
+set-free (o ∷ os) zero e = ap (λ (x : ℕ). x ∷ os) (sym e)
+set-free (o ∷ os) (suc unit) e = ap (λ (t : List ℕ). o ∷ t) (set-free os unit e)
 
 -- ---- the word that a fill stores
 
