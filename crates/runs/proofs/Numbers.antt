@@ -3,15 +3,16 @@ use mathlib.Core.Path.{_≡_, refl}
 use mathlib.Core.Bool.{Bool, true, false, not, _&&_, _||_}
 use mathlib.Core.List.{List}
 use Prim.Native.Nat.{ℕ, _<_}
-use lib.Dec.{T, leb}
+use lib.Dec.{T, leb, eqb}
 use Rattle.fields.specs.Layout.{get}
 use Rattle.fields.specs.Registers as reg
 use Rattle.fields.proofs.Laws.{get-lt}
 use Rattle.tables.specs.Below.{between, allBelow}
 use Rattle.tables.proofs.Laws.{all-at}
-use Rattle.codes.specs.Codes.{_has_, _to_, allocOps, monOps, bandwidthEvents, capacityEvents}
+use Rattle.codes.specs.Codes.{_has_, _to_, noCode, allocOps, monOps, bandwidthEvents, capacityEvents}
 use Rattle.codes.specs.declared.Resource.{Resource}
 use Rattle.codes.specs.declared.Resource.the-variants.{Bandwidth, Capacity}
+use Rattle.codes.specs.declared.AllocOp.the-variants.{FlushRcid}
 use Rattle.codes.proofs.Rows.{single-test}
 use Rattle.allocation.specs.Allocation as alloc
 use Rattle.monitor.specs.Monitor as mon
@@ -50,18 +51,32 @@ counts-same Capacity = below-same 256 (mon.countsEvent Capacity) (λ event. leb 
 
 -- ---- alloc_ctl
 
-module _ (nr na : ℕ) (bad : Bool) where
-  status : (v : ℕ) → alloc.operationStatus nr na bad v ≡ number.operationStatus nr na bad v
-  unfolding alloc.operationStatus alloc.invalidOp alloc.performs alloc.opOf allocOps number.operationStatus
-  status v = rw (other-same (alloc.opOf v) (get-lt reg.op v), ← single-test 1 (alloc.opOf v)) refl
+invalid-same : (resource : Resource) (op : ℕ) → op < 32 → alloc.invalidOp resource op ≡ not (number.validOp op || number.flushes resource op)
+unfolding same allBelow _has_ between alloc.invalidOp allocOps number.validOp number.flushes
+invalid-same Bandwidth = below-same 32 (alloc.invalidOp Bandwidth) (λ op. not (number.validOp op || false)) tt
+invalid-same Capacity = below-same 32 (alloc.invalidOp Capacity) (λ op. not (number.validOp op || eqb op 3)) tt
 
-  table : (words settled : List ℕ) (v : ℕ) → alloc.tableAfter nr na bad words settled v ≡ number.tableAfter nr na bad words settled v
-  unfolding alloc.tableAfter alloc.succeeds alloc.performs allocOps number.tableAfter number.succeeds
+flush-same : (resource : Resource) (op : ℕ) → op < 32 → allocOps resource FlushRcid has op ≡ number.flushes resource op
+unfolding same allBelow _has_ between allocOps number.flushes
+flush-same Bandwidth = below-same 32 (λ op. noCode has op) (λ op. false) tt
+flush-same Capacity = below-same 32 (λ op. (3 to 3) has op) (λ op. eqb op 3) tt
+
+module _ (resource : Resource) (nr na : ℕ) (bad : Bool) where
+  status : (v : ℕ) → alloc.operationStatus resource nr na bad v ≡ number.operationStatus resource nr na bad v
+  unfolding alloc.operationStatus alloc.performs alloc.opOf allocOps number.operationStatus
+  status v = rw (invalid-same resource (alloc.opOf v) (get-lt reg.op v), flush-same resource (alloc.opOf v) (get-lt reg.op v), ← single-test 1 (alloc.opOf v)) refl
+
+  table : (words settled : List ℕ) (v : ℕ) → alloc.tableAfter resource nr na bad words settled v ≡ number.tableAfter resource nr na bad words settled v
+  unfolding alloc.tableAfter alloc.succeeds alloc.performs allocOps number.tableAfter
   table words settled v = rw (status v, ← single-test 1 (alloc.opOf v)) refl
 
-  operand : (words : List ℕ) (word v : ℕ) → alloc.operandAfter nr na bad words word v ≡ number.operandAfter nr na bad words word v
-  unfolding alloc.operandAfter alloc.succeeds alloc.performs allocOps number.operandAfter number.succeeds
+  operand : (words : List ℕ) (word v : ℕ) → alloc.operandAfter resource nr na bad words word v ≡ number.operandAfter resource nr na bad words word v
+  unfolding alloc.operandAfter alloc.succeeds alloc.performs allocOps number.operandAfter
   operand words word v = rw (status v, ← single-test 2 (alloc.opOf v)) refl
+
+  flush : (v : ℕ) → alloc.succeeds resource nr na bad FlushRcid v ≡ (number.flushes resource (alloc.opOf v) && eqb (number.operationStatus resource nr na bad v) 1)
+  unfolding alloc.succeeds alloc.performs alloc.opOf
+  flush v = rw (status v, flush-same resource (alloc.opOf v) (get-lt reg.op v)) refl
 
 -- ---- mon_ctl
 
@@ -91,4 +106,4 @@ unfolding occupancy.countsBlock capacityEvents number.countsBlock
 blocks setting at = rw (← single-test 1 (get reg.settingEvent setting)) refl
 
 pub by-number : number.ByNumber
-by-number = record { status = status; table = table; operand = operand; monStatus = mon-status; monitor = monitor; settings = settings; requests = requests; blocks = blocks }
+by-number = record { status = status; table = table; operand = operand; flush = flush; monStatus = mon-status; monitor = monitor; settings = settings; requests = requests; blocks = blocks }

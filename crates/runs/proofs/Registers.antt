@@ -11,6 +11,7 @@ use Rattle.access.specs.Checks.{Kind, resets, writes, other}
 use Rattle.access.specs.Access as access
 use Rattle.access.specs.Pairs.{wordAt, Setting}
 use Rattle.allocation.specs.Allocation.{performs, rcidOf, atOf, allocWord, operationStatus, succeeds, operandAfter}
+use Rattle.codes.specs.Codes.{allocOps}
 use Rattle.codes.specs.declared.Resource.{Resource}
 use Rattle.codes.specs.declared.AllocOp.the-variants.{ConfigLimit, ReadLimit}
 use Rattle.allocation.proofs.Operations.{read-done}
@@ -38,7 +39,7 @@ pub record Parts (S U : Type 0) : Type 0 where
 
 module _ {S U : Type 0} (q : Parts S U) (s : S) (v : ℕ) where
   abbrev pub statusIn : ℕ
-  statusIn = operationStatus (q .nr (q .setup s)) (q .na (q .setup s)) (q .bad s v) v
+  statusIn = operationStatus (q .resource) (q .nr (q .setup s)) (q .na (q .setup s)) (q .bad s v) v
 
   abbrev pub monStatusIn : ℕ
   monStatusIn = monStatus (q .na (q .setup s)) (q .nm (q .setup s)) (q .resource) v
@@ -56,7 +57,7 @@ pub record Registered {S U C A : Type 0} (m : Machine S U C A) (q : Parts S U) :
   pub mon : (s : S) (c : C)
       → q .registers (m .perform s c .state) .monCtl ≡ controlAfter access.monCtl (λ v. monWord (q .na (q .setup s)) v 0 (monStatusIn q s v)) (q .registers s .monCtl) (m .kindOf c)
   pub operand : (s : S) (size v : ℕ)
-      → q .registers (m .perform s (m .write size (24) v) .state) .operand ≡ operandAfter (q .nr (q .setup s)) (q .na (q .setup s)) (q .bad s v) (q .table s) (q .registers s .operand) v
+      → q .registers (m .perform s (m .write size (24) v) .state) .operand ≡ operandAfter (q .resource) (q .nr (q .setup s)) (q .na (q .setup s)) (q .bad s v) (q .table s) (q .registers s .operand) v
 
 -- a ledger that knows the state's set-up and operand
 pub record Agrees {S U C A L X : Type 0} (m : Machine S U C A) (q : Parts S U) (b : Book S U C A L X) (s : S) (l : L) : Type 0 where
@@ -68,7 +69,7 @@ pub record Agrees {S U C A L X : Type 0} (m : Machine S U C A) (q : Parts S U) (
   pub value : X
   pub sets : (size v : ℕ)
       → b .settingsBy l (m .write size 24 v)
-      ≡ cond (succeeds (q .nr (q .setup s)) (q .na (q .setup s)) (q .bad s v) ConfigLimit v) (record { rcid = rcidOf v; at = atOf (q .na (q .setup s)) v; value = value } ∷ []) []
+      ≡ cond (succeeds (q .resource) (q .nr (q .setup s)) (q .na (q .setup s)) (q .bad s v) ConfigLimit v) (record { rcid = rcidOf v; at = atOf (q .na (q .setup s)) v; value = value } ∷ []) []
 
 -- ---- one call
 
@@ -98,16 +99,16 @@ module _ {S U C A : Type 0} {m : Machine S U C A} {q : Parts S U} (h : Registere
         ∙ h .mon s (m .write size 8 v) ∙ rw (h .writes-kind size 8 v) refl
 
     -- READ_LIMIT copies the word of a pair that is there
-    read-word : (rcid at : ℕ) → rcid < q .nr (q .setup s) → at < q .na (q .setup s) → T (performs ReadLimit v) → rcidOf v ≡ rcid
+    read-word : (rcid at : ℕ) → rcid < q .nr (q .setup s) → at < q .na (q .setup s) → T (performs (q .resource) ReadLimit v) → rcidOf v ≡ rcid
         → atOf (q .na (q .setup s)) v ≡ at → T (m .accepted (stepOf m s (m .write size 24 v) .answer))
         → q .registers (stepOf m s (m .write size 24 v) .state) .operand ≡ wordAt (q .na (q .setup s)) (q .table s) rcid at
     unfolding operandAfter
     read-word rcid at lr la o er ea t =
         let nr = q .nr (q .setup s) in
         let na = q .na (q .setup s) in
-        let d = read-done nr na (q .bad s v) v o (record { rcid-low = rw er lr; at-low = rw ea la }) in
+        let d = read-done (q .resource) nr na (q .bad s v) v o (record { rcid-low = rw er lr; at-low = rw ea la }) in
         ap (λ (x : Outcome S A). q .registers (x .state) .operand) (done-step (h .accepting) s (m .write size 24 v) t)
-        ∙ h .operand s size v ∙ cond-yes (succeeds nr na (q .bad s v) ReadLimit v) _ (q .registers s .operand) d ∙ rw (er, ea) refl
+        ∙ h .operand s size v ∙ cond-yes (succeeds (q .resource) nr na (q .bad s v) ReadLimit v) _ (q .registers s .operand) d ∙ rw (er, ea) refl
 
 -- ---- settings
 
@@ -115,6 +116,7 @@ module _ {S U C A L : Type 0} {m : Machine S U C A} {q : Parts S U} {b : Book S 
     (h : Registered m q) (k : Settings m b Inv (q .setup) setupBy acts (q .table)) (na : (l : L) → b .na l ≡ q .na (setupBy l))
     (at : (l : L) (s : S) (rcid at : ℕ) → b .valueAt l s rcid at ≡ wordAt (q .na (setupBy l)) (q .table s) rcid at) (word : (w : ℕ) → b .wordOf w ≡ w) where
   pub lasting : Lasts acts part → (s : S) (l : L) → Inv s l → Lasting m b part s l
+  unfolding performs allocOps
   lasting d s l i =
       let back : (c : C) (between : List C) (p : Setting ℕ) → Stands m b part s l c between p → Back (q .setup) acts (q .table) part (setupBy l) p (after (stepOf m) s (c ∷ between))
       = stands m b part (h .accepting) (standing k d) s l i in
@@ -182,7 +184,7 @@ module _ {S U C A L X K : Type 0} {m : Machine S U C A} {q : Parts S U} {b : Boo
   noted-always = keeps-always (h .accepting) noted-keeps
 
   reads : (s : S) (n : Notes L (Tally U K)) → Noted m q b Inv Counts s n → RegisterReads m b s n
-  unfolding settings
+  unfolding settings performs allocOps
   reads s n i =
       let l = n .ledger in
       let g = k .agrees s l (i .inv) in
@@ -190,10 +192,10 @@ module _ {S U C A L X K : Type 0} {m : Machine S U C A} {q : Parts S U} {b : Boo
       let na = q .na (q .setup s) in
       record {
         reads = λ register. rw (← i .alloc, ← i .mon, g .capabilities, g .operand, ← k .shown s (n .tally) (i .counts)) (reads-now h s register);
-        alloc = λ size v x e. rw (g .na, g .status v) (read-fields nr na (q .bad s v) v x (shown-alloc h s size v x e));
+        alloc = λ size v x e. rw (g .na, g .status v) (read-fields (q .resource) nr na (q .bad s v) v x (shown-alloc h s size v x e));
         set = λ size v x e.
             rw (g .na, cond-yes (m .accepted (stepOf m s (m .write size 24 v) .answer)) (b .settingsBy l (m .write size 24 v)) [] (e .written), g .sets size v)
-            (read-sets nr na (q .bad s v) v x (shown-alloc h s size v x e) (g .value));
+            (read-sets (q .resource) nr na (q .bad s v) v x (shown-alloc h s size v x e) (g .value));
         mon = λ size v x e.
             rw (g .na, g .mon v) (ap (unpack monCtl) (shown-mon h s size v x e) ∙ monWord-fields na v (monStatusIn q s v) (monStatus-lt na (q .nm (q .setup s)) (q .resource) v));
       }

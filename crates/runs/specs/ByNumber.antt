@@ -1,11 +1,12 @@
 -- The decisions on OP and EVT_ID by their numbers alone, without the rows of the standard's tables, and the claim that the decisions by rows are the same.
-use Rattle.access.specs.Logic.{_≡_, Bool, not, _&&_, _||_, List, [], _∷_, ℕ, set, if_then_else_, _==_, _≤?_, _<?_, _‼_}
+use Rattle.access.specs.Logic.{_≡_, Bool, false, not, _&&_, _||_, List, [], _∷_, ℕ, set, if_then_else_, _==_, _≤?_, _<?_, _‼_}
 use Rattle.fields.specs.Layout.{get, pack, namedBits}
 use Rattle.fields.specs.Registers as reg
 use Rattle.access.specs.Checks.{_gives_, first}
 use Rattle.access.specs.Pairs.{wordAt}
 use Rattle.codes.specs.declared.Resource.{Resource}
 use Rattle.codes.specs.declared.Resource.the-variants.{Bandwidth, Capacity}
+use Rattle.codes.specs.declared.AllocOp.the-variants.{FlushRcid}
 use Rattle.allocation.specs.Allocation as alloc
 use Rattle.monitor.specs.Monitor as mon
 use Rattle.monitor.specs.Bytes as bytes
@@ -21,24 +22,28 @@ lastEvent Bandwidth = 3
 lastEvent Capacity = 1
 
 -- ---- alloc_ctl
-unfoldable pub operationStatus : ℕ → ℕ → Bool → ℕ → ℕ
-operationStatus nr na bad v =
+
+-- OP 3 of the capacity controller flushes an RCID
+unfoldable pub flushes : Resource → ℕ → Bool
+flushes Bandwidth op = false
+flushes Capacity op = op == 3
+
+unfoldable pub operationStatus : Resource → ℕ → ℕ → Bool → ℕ → ℕ
+operationStatus resource nr na bad v =
     first
-    ((not (validOp (alloc.opOf v)) gives 2)
+    ((not (validOp (alloc.opOf v) || flushes resource (alloc.opOf v)) gives 2)
     ∷ (nr ≤? alloc.rcidOf v gives 3)
-    ∷ (na ≤? alloc.atOf na v gives 4)
+    ∷ ((not (flushes resource (alloc.opOf v)) && na ≤? alloc.atOf na v) gives 4)
     ∷ ((alloc.opOf v == 1 && bad) gives 5)
     ∷ [])
     1
 
-unfoldable pub succeeds : ℕ → ℕ → Bool → ℕ → ℕ → Bool
-succeeds nr na bad op v = alloc.opOf v == op && operationStatus nr na bad v == 1
+unfoldable pub tableAfter : Resource → ℕ → ℕ → Bool → List ℕ → List ℕ → ℕ → List ℕ
+tableAfter resource nr na bad table settled v = if alloc.opOf v == 1 && operationStatus resource nr na bad v == 1 then settled else table
 
-unfoldable pub tableAfter : ℕ → ℕ → Bool → List ℕ → List ℕ → ℕ → List ℕ
-tableAfter nr na bad table settled v = if succeeds nr na bad 1 v then settled else table
-
-unfoldable pub operandAfter : ℕ → ℕ → Bool → List ℕ → ℕ → ℕ → ℕ
-operandAfter nr na bad table operand v = if succeeds nr na bad 2 v then wordAt na table (alloc.rcidOf v) (alloc.atOf na v) else operand
+unfoldable pub operandAfter : Resource → ℕ → ℕ → Bool → List ℕ → ℕ → ℕ → ℕ
+operandAfter resource nr na bad table operand v =
+    if alloc.opOf v == 2 && operationStatus resource nr na bad v == 1 then wordAt na table (alloc.rcidOf v) (alloc.atOf na v) else operand
 
 -- ---- mon_ctl
 unfoldable pub monStatus : ℕ → ℕ → Resource → ℕ → ℕ
@@ -85,9 +90,13 @@ countsBlock setting at = get reg.settingEvent setting == 1 && mon.matchesAt sett
 
 -- ---- for every value written, set-up and table: STATUS, what the operation leaves, check 3 over counter settings, and what they count
 pub record ByNumber : Type 0 where
-  pub status : (nr na : ℕ) (bad : Bool) (v : ℕ) → alloc.operationStatus nr na bad v ≡ operationStatus nr na bad v
-  pub table : (nr na : ℕ) (bad : Bool) (table settled : List ℕ) (v : ℕ) → alloc.tableAfter nr na bad table settled v ≡ tableAfter nr na bad table settled v
-  pub operand : (nr na : ℕ) (bad : Bool) (table : List ℕ) (operand v : ℕ) → alloc.operandAfter nr na bad table operand v ≡ operandAfter nr na bad table operand v
+  pub status : (resource : Resource) (nr na : ℕ) (bad : Bool) (v : ℕ) → alloc.operationStatus resource nr na bad v ≡ operationStatus resource nr na bad v
+  pub table : (resource : Resource) (nr na : ℕ) (bad : Bool) (table settled : List ℕ) (v : ℕ)
+      → alloc.tableAfter resource nr na bad table settled v ≡ tableAfter resource nr na bad table settled v
+  pub operand : (resource : Resource) (nr na : ℕ) (bad : Bool) (table : List ℕ) (operand v : ℕ)
+      → alloc.operandAfter resource nr na bad table operand v ≡ operandAfter resource nr na bad table operand v
+  pub flush : (resource : Resource) (nr na : ℕ) (bad : Bool) (v : ℕ)
+      → alloc.succeeds resource nr na bad FlushRcid v ≡ (flushes resource (alloc.opOf v) && operationStatus resource nr na bad v == 1)
   pub monStatus : (na nm : ℕ) (resource : Resource) (v : ℕ) → mon.monStatus na nm resource v ≡ monStatus na nm resource v
   pub monitor : (na nm : ℕ) (resource : Resource) (m : mon.Monitor) (v : ℕ) → mon.writeMon na nm resource m v ≡ writeMon na nm resource m v
   pub settings : (na : ℕ) (resource : Resource) (s : ℕ) → mon.settingOk na resource s ≡ settingOk na resource s

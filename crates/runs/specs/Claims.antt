@@ -9,7 +9,7 @@ use Rattle.access.specs.Access as access
 use Rattle.access.specs.Pairs.{Setting, ofPair, anyOf}
 use Rattle.allocation.specs.Allocation.{opOf, rcidOf, atOf, statusOf, allocWord, invalidOp, performs, operationStatus}
 use Rattle.codes.specs.declared.Resource.{Resource}
-use Rattle.codes.specs.declared.AllocOp.the-variants.{ConfigLimit, ReadLimit}
+use Rattle.codes.specs.declared.AllocOp.the-variants.{ConfigLimit, ReadLimit, FlushRcid}
 use Rattle.codes.specs.declared.MonOp.the-variants.{ConfigEvent}
 use Rattle.monitor.specs.Monitor as mon
 use Rattle.monitor.specs.Tally.{Counter, Tally}
@@ -18,6 +18,8 @@ use Rattle.runs.specs.Runs.{Event, event, after, events, untouched, Keep
 -- what the claims ask of a ledger of type L, with settings of type X
 pub record Book (S U C A L X : Type 0) : Type 0 where
   pub keeper : Keeper U C A L
+  -- whose tables of operations and events it has
+  pub resource : Resource
   -- NA; capabilities; bw_alloc or block_mask
   pub na : L → ℕ
   pub capabilities : L → ℕ
@@ -139,7 +141,7 @@ module _ {S U C A L X : Type 0} (m : Machine S U C A) (b : Book S U C A L X) whe
           → part .of (b .valueAt l (after (stepOf m) s (c ∷ between)) (p .rcid) (p .at)) ≡ part .of (p .value)
       -- and it reads back through a READ_LIMIT and a read of bw_alloc or block_mask
       pub readBack : (c : C) (between : List C) (p : Setting X) (size v : ℕ) → Stands s l c between p
-          → T (performs ReadLimit v) → rcidOf v ≡ p .rcid → atOf (b .na l) v ≡ p .at
+          → T (performs (b .resource) ReadLimit v) → rcidOf v ≡ p .rcid → atOf (b .na l) v ≡ p .at
           → T (m .accepted (stepOf m (after (stepOf m) s (c ∷ between)) (m .write size (8 * access.allocCtl) v) .answer))
           → ReadsPart part (stepOf m (after (stepOf m) s (c ∷ between)) (m .write size (8 * access.allocCtl) v) .state) (p .value)
 
@@ -159,7 +161,7 @@ module _ {S U C A L X : Type 0} (m : Machine S U C A) (b : Book S U C A L X) whe
     -- the ledger takes the write for a setting of its pair exactly where CONFIG_LIMIT with STATUS 1 is read
     pub set : (size v x : ℕ) → Shows m s access.allocCtl size v x
         → T (anyOf (ofPair (rcidOf x) (atOf (b .na (n .ledger)) x)) (settings (n .ledger) (event (stepOf m) s (m .write size (8 * access.allocCtl) v))))
-        ↔ (T (performs ConfigLimit x) × (statusOf x ≡ 1))
+        ↔ (T (performs (b .resource) ConfigLimit x) × (statusOf x ≡ 1))
     -- mon_ctl, read after an operation: BUSY 0, its STATUS and the fields written
     pub mon : (size v x : ℕ) → Shows m s access.monCtl size v x
         → unpack reg.monCtl x ≡ reg.idle ∷ b .monStatusBy (n .ledger) v ∷ mon.atvOf (b .na (n .ledger)) v ∷ mon.eventOf v ∷ mon.mcidOf v
@@ -177,7 +179,8 @@ module _ {S U C A L X : Type 0} (m : Machine S U C A) (b : Book S U C A L X) whe
 -- ---- STATUS: each under its own condition and no other
 pub record Statuses (resource : Resource) : Type 0 where
   pub alloc : (nr na : ℕ) (bad : Bool) (v : ℕ)
-      → Rows (invalidOp (opOf v)) (nr ≤? rcidOf v) (na ≤? atOf na v) (performs ConfigLimit v && bad) (operationStatus nr na bad v)
+      → Rows (invalidOp resource (opOf v)) (nr ≤? rcidOf v) (not (performs resource FlushRcid v) && na ≤? atOf na v) (performs resource ConfigLimit v && bad)
+      (operationStatus resource nr na bad v)
   pub monitor : (na nm v : ℕ)
       → Rows (mon.invalidOp (mon.opOf v)) (nm ≤? mon.mcidOf v) (mon.performs ConfigEvent v && mon.unknownEvent resource (mon.eventOf v))
       (mon.performs ConfigEvent v && mon.atvOf na v == 1 && na ≤? mon.atOf na v) (mon.monStatus na nm resource v)
