@@ -4,8 +4,8 @@
  * benchmark and a second opinion for tests. Compile with -DPREFIX=cbqri_ to
  * get the functions under the library's own names.
  *
- * tuned.c includes this file and has the tables checked by functions of its
- * own, and an RCID flushed, named by the macros below.
+ * tuned.c includes this file and has the tables checked, and an RCID flushed, by
+ * functions of its own, named by the macros below.
  */
 #include "plain.h"
 
@@ -796,21 +796,15 @@ static void evict(struct capacity *c, uint64_t unit)
 }
 
 /* Evicts the units from first to before end that the RCID owns. */
-static void flush_units(struct capacity *c, uint64_t rcid, uint64_t first, uint64_t end)
+static void FLUSH(struct capacity *c, uint64_t rcid, uint64_t first, uint64_t end);
+
+static void flush(struct capacity *c, uint64_t rcid, uint64_t first, uint64_t end)
 {
     for (uint64_t unit = first; unit < end; unit++) {
         uint32_t owner = load32(c->owners, unit);
         if (owner != 0 && field(owner, 0, 8) == rcid)
             evict(c, unit);
     }
-}
-
-/* Evicts every unit that the RCID owns. */
-static void FLUSH(struct capacity *c, uint64_t rcid);
-
-static void flush(struct capacity *c, uint64_t rcid)
-{
-    flush_units(c, rcid, 0, c->units);
 }
 
 static void capacity_perform_alloc(struct capacity *c, uint64_t value)
@@ -821,7 +815,7 @@ static void capacity_perform_alloc(struct capacity *c, uint64_t value)
     uint64_t status = alloc_status(ctl, FLUSH_RCID, c->r.nr, c->r.na);
     if (status == 1) {
         if (op == FLUSH_RCID)
-            FLUSH(c, rcid);
+            FLUSH(c, rcid, 0, c->units);
         else if (op == READ_LIMIT)
             c->r.registers.limit = load64(c->masks, pair);
         else if (c->r.registers.limit == 0)
