@@ -360,8 +360,8 @@ static void print_head(int repetitions, double milliseconds)
            "                 of settings are equal, so that the next take less time\n"
            "  all wait       under every RCID a request waits, before each window end anew; in the\n"
            "                 other rows none does\n"
-           "  units          blocks of the cache and units of each; mixed: most have an owner, also\n"
-           "                 before each eviction and each flush\n\n",
+           "  units          blocks of the cache and units of each; mixed: most have an owner,\n"
+           "                 before each eviction and each flush too\n\n",
            repetitions, milliseconds, COMPILERS);
     printf("%-20s %-7s %4s %-7s %-6s %8s %8s %-5s %8s %-5s %8s %13s %13s\n", "call", "pairs",
            "NM", "units", "state", "library", "plain", "", "tuned", "", "read all", "library/plain",

@@ -1,11 +1,11 @@
 /*
  * The cases of rules P1 to P12 with their numbers, a few of a device's request, of
  * an RCID's weight, of requests that wait and of a cache's units, then random calls
- * on both controllers from a fixed seed. Its output is the same on every machine: a line for each 100
- * calls has their 100 answers (0, or the refusal's number, a and b for 10 and 11)
- * and a checksum of all that the calls so far have handed back and left in record
- * and tables. It ends with 1 where a case has another number, or some answer never
- * came up.
+ * on both controllers from a fixed seed. Its output is the same on every machine: a
+ * line for each 100 calls has their 100 answers (0, or the refusal's number, a and b
+ * for 10 and 11) and a checksum of all that the calls so far have handed back and
+ * left in record and tables. It ends with 1 where a case has another number, or some
+ * answer never came up.
  */
 #include "../bench/calls.h"
 

@@ -1,6 +1,6 @@
-//! Units of the cache, on random set-ups and masks from a fixed seed: who owns each unit after a fill,
-//! an eviction and a flush, and that a counter that counts from the reset on is the number of units that
-//! its MCID owns.
+//! Units of the cache, on random set-ups and masks from a fixed seed: who owns each unit after a
+//! fill, an eviction and a flush, and that a counter that counts from the reset on is the number of
+//! units that its MCID owns.
 
 mod random;
 
@@ -33,7 +33,8 @@ fn set_any(cc: &mut Capacity, random: &mut Random) {
     cc.write(8, reg::ALLOC_CTL, reg::alloc_ctl(reg::CONFIG_LIMIT, at, rcid)).unwrap();
 }
 
-/// A fill, allowed exactly if the pair's mask has the unit's block; gives whether it replaced an owner.
+/// A fill, allowed exactly if the pair's mask has the unit's block; gives whether it replaced an
+/// owner.
 fn check_fill(cc: &mut Capacity, random: &mut Random) -> bool {
     let CapacitySetup { ncblks, nr, na, nm, u, .. } = cc.setup();
     let (rcid, mcid, at) = (random.about(nr), random.about(nm), random.about(na));
@@ -73,8 +74,8 @@ fn check_evict(cc: &mut Capacity, random: &mut Random) {
     assert_eq!(owners(cc), after);
 }
 
-/// A flush frees the units of its RCID alone, whatever AT it names, and leaves masks and block_mask;
-/// gives how many it freed.
+/// A flush frees the units of its RCID alone, whatever AT it names, and leaves masks and
+/// block_mask; gives how many it freed.
 fn check_flush(cc: &mut Capacity, random: &mut Random) -> usize {
     let nr = cc.setup().nr;
     let (rcid, at) = (random.about(nr), random.below(8));
