@@ -168,20 +168,35 @@ static uint64_t run_fill(const struct interface *f, uint64_t n)
     uint64_t sum = 0, allowed;
     for (uint64_t i = 0; i < n; i++) {
         const struct arguments *a = &list[i % CALLS];
-        sum += f->capacity_fill(CAPACITY_OF(&now.capacity), a->rcid, a->mcid, a->at,
-                                a->bytes % NCBLKS, &allowed) << 40;
+        sum += f->capacity_fill(CAPACITY_OF(&now.capacity), a->rcid, a->mcid, a->at, a->unit,
+                                &allowed) << 40;
         sum += allowed;
     }
     return sum;
 }
 
+/* The unit has an owner before a call, and then again what it had at the start. */
 static uint64_t run_evict(const struct interface *f, uint64_t n)
 {
     uint64_t sum = 0;
     for (uint64_t i = 0; i < n; i++) {
         const struct arguments *a = &list[i % CALLS];
-        sum += f->capacity_evict(CAPACITY_OF(&now.capacity), a->rcid, a->mcid, a->at,
-                                 a->bytes % NCBLKS);
+        now.capacity.owners[a->unit] = cbqri_owner(a->rcid, a->mcid, a->at);
+        sum += f->capacity_evict(CAPACITY_OF(&now.capacity), a->unit);
+        sum += now.capacity.owners[a->unit];
+        now.capacity.owners[a->unit] = start.capacity.owners[a->unit];
+    }
+    return sum << 40;
+}
+
+/* Before each call all owners are there again. */
+static uint64_t run_flush(const struct interface *f, uint64_t n)
+{
+    uint64_t sum = 0;
+    for (uint64_t i = 0; i < n; i++) {
+        memcpy(now.capacity.owners, start.capacity.owners, start.capacity.owners_len);
+        sum += f->capacity_write(CAPACITY_OF(&now.capacity), 8, CBQRI_ALLOC_CTL,
+                                 list[i % CALLS].flush);
     }
     return sum << 40;
 }
@@ -201,6 +216,7 @@ static const struct measured {
     {"window end, all wait", run_end_window_waiting, 1},
     {"fill", run_fill, 0},
     {"evict", run_evict, 0},
+    {"FLUSH_RCID write", run_flush, 0},
 };
 enum { MEASURED = sizeof measured / sizeof measured[0] };
 
@@ -234,7 +250,8 @@ static uint64_t read_all(int bandwidth)
                sum_words(b->counters, b->counters_len) + sum_words(b->events, b->events_len) +
                sum_words(b->waiters, b->waiters_len);
     return sum_words(c->record, c->record_len) + sum_words(c->masks, c->masks_len) +
-           sum_words(c->counters, c->counters_len) + sum_words(c->events, c->events_len);
+           sum_words(c->counters, c->counters_len) + sum_words(c->events, c->events_len) +
+           sum_words(c->owners, c->owners_len);
 }
 
 /* Timing */
@@ -342,10 +359,12 @@ static void print_head(int repetitions, double milliseconds)
            "  window end     each one finds what the one before left: after the first both tables\n"
            "                 of settings are equal, so that the next take less time\n"
            "  all wait       under every RCID a request waits, before each window end anew; in the\n"
-           "                 other rows none does\n\n",
+           "                 other rows none does\n"
+           "  units          blocks of the cache and units of each; mixed: most have an owner,\n"
+           "                 before each eviction and each flush too\n\n",
            repetitions, milliseconds, COMPILERS);
-    printf("%-20s %-7s %4s %-6s %8s %8s %-5s %8s %-5s %8s %13s %13s\n", "call", "pairs", "NM",
-           "state", "library", "plain", "", "tuned", "", "read all", "library/plain",
+    printf("%-20s %-7s %4s %-7s %-6s %8s %8s %-5s %8s %-5s %8s %13s %13s\n", "call", "pairs",
+           "NM", "units", "state", "library", "plain", "", "tuned", "", "read all", "library/plain",
            "library/tuned");
 #ifdef WITH_BEFORE
     printf("at the end of a row: before, library/before\n");
@@ -357,10 +376,12 @@ static void print_row(const struct measured *m, const struct setup *s, const cha
 {
     int plain = row->best[PLAIN], tuned = row->best[TUNED];
     const double *ns = row->ns;
-    char pairs[16];
+    char pairs[16], units[16] = "";
     snprintf(pairs, sizeof pairs, "%" PRIu64 " x %" PRIu64, s->nr, s->na);
-    printf("%-20s %-7s %4" PRIu64 " %-6s %8.1f %8.1f %-5s %8.1f %-5s %8.1f %13.2f %13.2f",
-           m->name, pairs, s->nm, state, ns[LIBRARY], ns[plain], versions[plain].f.name,
+    if (!m->bandwidth)
+        snprintf(units, sizeof units, "%" PRIu64 " x %" PRIu64, s->ncblks, s->u);
+    printf("%-20s %-7s %4" PRIu64 " %-7s %-6s %8.1f %8.1f %-5s %8.1f %-5s %8.1f %13.2f %13.2f",
+           m->name, pairs, s->nm, units, state, ns[LIBRARY], ns[plain], versions[plain].f.name,
            ns[tuned], versions[tuned].f.name, row->reading, ns[LIBRARY] / ns[plain],
            ns[LIBRARY] / ns[tuned]);
 #ifdef WITH_BEFORE
@@ -386,13 +407,12 @@ static double bench_state(const struct setup *s, int mixed, int repetitions, dou
 
 int main(int argc, char **argv)
 {
-    static const struct setup setups[] = {{4, 2, 4}, {64, 2, 16}, {256, 8, 256}};
     int repetitions = argc > 1 ? atoi(argv[1]) : 7;
     double milliseconds = argc > 2 ? atof(argv[2]) : 20, worst = 0;
     if (repetitions < 1 || repetitions > MAX_REPETITIONS || milliseconds <= 0)
         return 2;
     print_head(repetitions, milliseconds);
-    for (int i = 0; i < 3; i++) {
+    for (int i = 0; i < SETUPS; i++) {
         for (int mixed = 1; mixed >= 0; mixed--) {
             double here = bench_state(&setups[i], mixed, repetitions, milliseconds);
             worst = here > worst ? here : worst;

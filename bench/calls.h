@@ -14,7 +14,7 @@ enum {
     RECORD, ACTIVE, CONFIGURED, USED, BANDWIDTH_COUNTERS, BANDWIDTH_EVENTS, WAITERS,
     BANDWIDTH_SLICES_END
 };
-enum { MASKS = 1, CAPACITY_COUNTERS, CAPACITY_EVENTS, CAPACITY_SLICES_END };
+enum { MASKS = 1, CAPACITY_COUNTERS, CAPACITY_EVENTS, OWNERS, CAPACITY_SLICES_END };
 enum { MAX_SLICES = BANDWIDTH_SLICES_END };
 
 struct slice {
@@ -61,7 +61,7 @@ static uint64_t pick(const uint64_t *list, size_t length)
 /* Set-ups */
 
 struct setup {
-    uint64_t nbwblks, mrbwb, ncblks, nr, na, nm, q, w;
+    uint64_t nbwblks, mrbwb, ncblks, nr, na, nm, q, w, u;
 };
 
 static struct setup random_setup(void)
@@ -75,6 +75,7 @@ static struct setup random_setup(void)
     s.nm = PICK(1, 2, 4, 7, 16, 1 + upto(256), 256);
     s.q = PICK(1, 2, 64, 4096, 65535, 65536, 1 + upto(65536));
     s.w = PICK(24, 25, 32, 61, 62, 24 + upto(39));
+    s.u = PICK(1, 2, 3, 4, 8, 64, 1 + upto(64));
     return s;
 }
 
@@ -171,11 +172,27 @@ static void random_bandwidth(const struct slice *list, const struct setup *s)
     put_word(list[RECORD].at, 11, 8, PICK(0, pool, pool ? upto(pool) : 0));
 }
 
+/* Few RCIDs own most units, so that a flush finds some. */
+static uint64_t random_owner(const struct setup *s)
+{
+    uint64_t rcid = near_front(s->nr), mcid = upto(s->nm), at = upto(s->na);
+    return rcid | mcid << 8 | at << 16 | UINT64_C(1) << 19;
+}
+
+/* None, few, half or all of the units are owned. */
+static void random_owners(void *table, const struct setup *s)
+{
+    uint64_t one = PICK(0, 8, 2, 1);
+    for (uint64_t unit = 0; unit < s->ncblks * s->u; unit++)
+        put_word(table, unit, 4, one && one_in(one) ? random_owner(s) : 0);
+}
+
 static void random_capacity(const struct slice *list, const struct setup *s)
 {
     uint64_t blocks = UINT64_MAX >> (64 - s->ncblks);
     for (uint64_t i = 0; i < s->nr * s->na; i++)
         put_word(list[MASKS].at, i, 8, PICK(0, blocks, next_random(&seed) & blocks));
+    random_owners(list[OWNERS].at, s);
     random_monitor(list[CAPACITY_COUNTERS].at, list[CAPACITY_EVENTS].at, s, 1, UINT64_C(1) << 63);
 }
 
@@ -209,6 +226,16 @@ static void damage_word(void *table, size_t length, unsigned bytes)
     put_word(table, index, bytes, word);
 }
 
+/* One unit is owned, but with a field that no fill stores. */
+static void damage_owner(void *table, const struct setup *s)
+{
+    uint64_t unit = near_front(s->ncblks * s->u), owner = random_owner(s);
+    uint64_t outside[] = {s->nr, s->nm << 8, s->na << 16}, fields[] = {0xff, 0xff00, 0x70000};
+    uint64_t place = upto(4);
+    owner = place == 3 ? owner & 0x7ffff : (owner & ~fields[place]) | outside[place];
+    put_word(table, unit, 4, owner);
+}
+
 static void damage_length(size_t *length)
 {
     *length = PICK(0, *length - 1, *length / 2, *length > 4 ? *length - 4 : 0);
@@ -225,14 +252,15 @@ struct call {
     enum kind kind;
     struct setup setup;             /* of a reset */
     uint64_t size, offset, value;   /* of a read or write */
-    uint64_t rcid, mcid, at, which; /* of a request or cache event */
+    uint64_t rcid, mcid, at, which; /* of a request or cache event: its kind or unit */
     uint64_t mode, word;            /* of a device's request, beside at and which */
     uint32_t bytes;
 };
 
-static uint64_t random_control(const struct setup *s, uint64_t ids)
+/* A word for a control register, whose operations are 1 to ops. */
+static uint64_t random_control(const struct setup *s, uint64_t ids, uint64_t ops)
 {
-    uint64_t op = one_in(10) ? upto(32) : 1 + upto(2);
+    uint64_t op = one_in(10) ? upto(32) : 1 + upto(ops);
     uint64_t at = one_in(10) ? upto(8) : upto(s->na);
     uint64_t id = one_in(10) ? upto(4096) : near_front(ids);
     uint64_t event = one_in(10) ? upto(256) : upto(5);
@@ -250,8 +278,10 @@ static void random_access(struct call *c, const struct setup *s, int bandwidth)
     c->value = random_word(64);
     if (c->offset == 32 && bandwidth)
         c->value = random_bw_alloc(s);
-    if (c->offset == 8 || c->offset == 24)
-        c->value = random_control(s, c->offset == 8 ? s->nm : s->nr);
+    if (c->offset == 8)
+        c->value = random_control(s, s->nm, 2);
+    if (c->offset == 24)
+        c->value = random_control(s, s->nr, bandwidth ? 2 : 3);
     if (c->size == 4 && !one_in(20))
         c->value &= UINT32_MAX;
 }
@@ -274,6 +304,13 @@ static void random_device(struct call *c, const struct setup *s)
         c->word = rcid << 40 | mcid << 52 | (stray & UINT64_C(0xffffffffff));
 }
 
+/* Often one of the first units, so that fills and evictions meet. */
+static uint64_t random_unit(const struct setup *s)
+{
+    uint64_t units = s->ncblks * s->u;
+    return one_in(10) ? PICK(units, 64 * 64, UINT64_MAX) : near_front(units);
+}
+
 static struct call random_call(const struct setup *s, int bandwidth)
 {
     struct call c = {0};
@@ -285,16 +322,15 @@ static struct call random_call(const struct setup *s, int bandwidth)
     c.setup = *s;
     if (one_in(2)) {
         uint64_t *numbers[] = {&c.setup.nbwblks, &c.setup.mrbwb, &c.setup.ncblks, &c.setup.nr,
-                               &c.setup.na, &c.setup.nm, &c.setup.q, &c.setup.w};
-        uint64_t *number = numbers[upto(8)];
+                               &c.setup.na, &c.setup.nm, &c.setup.q, &c.setup.w, &c.setup.u};
+        uint64_t *number = numbers[upto(9)];
         *number = PICK(0, *number + 1, *number - 1, 65, 257, 65537, UINT64_MAX);
     }
     random_access(&c, s, bandwidth);
     c.rcid = one_in(20) ? PICK(s->nr, UINT64_MAX) : upto(s->nr);
     c.mcid = one_in(20) ? PICK(s->nm, UINT64_MAX) : upto(s->nm);
     c.at = one_in(10) ? PICK(s->na, 8, UINT64_MAX) : upto(s->na);
-    c.which = bandwidth ? PICK(0, 0, 1, 2, UINT64_MAX)
-                        : (one_in(10) ? PICK(s->ncblks, 64, UINT64_MAX) : upto(s->ncblks));
+    c.which = bandwidth ? PICK(0, 0, 1, 2, UINT64_MAX) : random_unit(s);
     c.bytes = one_in(8) ? 0 : (uint32_t)random_word(32);
     random_device(&c, s);
     return c;
@@ -307,12 +343,11 @@ static struct call random_call(const struct setup *s, int bandwidth)
  * second. */
 enum { NUMBERS = 2 };
 
-#define FOUR(s)                                                                \
+#define FIVE(s)                                                                \
     (s)[0].at, (s)[0].length, (s)[1].at, (s)[1].length, (s)[2].at,             \
-        (s)[2].length, (s)[3].at, (s)[3].length
+        (s)[2].length, (s)[3].at, (s)[3].length, (s)[4].at, (s)[4].length
 #define SEVEN(s)                                                               \
-    FOUR(s), (s)[4].at, (s)[4].length, (s)[5].at, (s)[5].length, (s)[6].at,    \
-        (s)[6].length
+    FIVE(s), (s)[5].at, (s)[5].length, (s)[6].at, (s)[6].length
 
 static uint64_t call_bandwidth(const struct interface *f, const struct slice *b,
                                const struct call *c, uint64_t *const out[NUMBERS])
@@ -346,15 +381,15 @@ static uint64_t call_capacity(const struct interface *f, const struct slice *b,
     const struct setup *s = &c->setup;
     switch (c->kind) {
     case RESET:
-        return f->capacity_reset(s->ncblks, s->nr, s->na, s->nm, s->w, FOUR(b));
+        return f->capacity_reset(s->ncblks, s->nr, s->na, s->nm, s->w, s->u, FIVE(b));
     case READ:
-        return f->capacity_read(FOUR(b), c->size, c->offset, out[0]);
+        return f->capacity_read(FIVE(b), c->size, c->offset, out[0]);
     case WRITE:
-        return f->capacity_write(FOUR(b), c->size, c->offset, c->value);
+        return f->capacity_write(FIVE(b), c->size, c->offset, c->value);
     case FILL:
-        return f->capacity_fill(FOUR(b), c->rcid, c->mcid, c->at, c->which, out[0]);
+        return f->capacity_fill(FIVE(b), c->rcid, c->mcid, c->at, c->which, out[0]);
     default:
-        return f->capacity_evict(FOUR(b), c->rcid, c->mcid, c->at, c->which);
+        return f->capacity_evict(FIVE(b), c->which);
     }
 }
 
@@ -369,7 +404,7 @@ struct controller {
     unsigned answers;            /* bit N: some call answers N */
     size_t record;               /* bytes */
     unsigned widths[MAX_SLICES]; /* bytes of a word in each slice */
-    char words[MAX_SLICES + 1];  /* of a pair (p), an MCID (m) or an RCID (r) */
+    char words[MAX_SLICES + 1];  /* of a pair (p), an MCID (m), an RCID (r) or a unit (u) */
     void (*random_state)(const struct slice *list, const struct setup *s);
     uint64_t (*call)(const struct interface *f, const struct slice *list, const struct call *c,
                      uint64_t *const out[NUMBERS]);
@@ -382,7 +417,7 @@ static const struct controller controllers[CONTROLLERS] = {
      {0, 1, 0, 2, 0, 2, 0, 1}, 0, BANDWIDTH_SLICES_END, 32, 0xeff, 96, {8, 4, 4, 4, 8, 2, 8},
      ".pppmmr", random_bandwidth, call_bandwidth},
     {"capacity", {"reset", "read", "write", "fill", "evict"}, {0, 1, 0, 1, 0}, 1,
-     CAPACITY_SLICES_END, 12, 0x1ff, 72, {8, 8, 8, 2}, ".pmm", random_capacity, call_capacity},
+     CAPACITY_SLICES_END, 12, 0x1ff, 80, {8, 8, 8, 2, 4}, ".pmmu", random_capacity, call_capacity},
 };
 
 /* Slices with memory of their own, for the largest set-up. */
@@ -391,12 +426,27 @@ struct memory {
     uint64_t words[MAX_SLICES][MAX_PAIRS];
 };
 
+_Static_assert(4 * MAX_UNITS <= 8 * MAX_PAIRS, "owners fit where masks do");
+
+static uint64_t words_by(char by, const struct setup *s)
+{
+    switch (by) {
+    case 'p':
+        return s->nr * s->na;
+    case 'm':
+        return s->nm;
+    case 'r':
+        return s->nr;
+    default:
+        return s->ncblks * s->u;
+    }
+}
+
 static void fit(struct memory *m, const struct controller *k, const struct setup *s)
 {
     for (int i = 0; i < k->slices; i++) {
-        char by = k->words[i];
-        size_t length = k->widths[i] * (by == 'm' ? s->nm : by == 'r' ? s->nr : s->nr * s->na);
-        m->list[i] = (struct slice){(uint8_t *)m->words[i], i == RECORD ? k->record : length};
+        size_t length = i == RECORD ? k->record : k->widths[i] * words_by(k->words[i], s);
+        m->list[i] = (struct slice){(uint8_t *)m->words[i], length};
     }
 }
 
@@ -408,11 +458,13 @@ static void copy_slices(struct memory *to, const struct slice *from, int slices)
     }
 }
 
-static void damage(const struct controller *k, struct slice *list)
+static void damage(const struct controller *k, struct slice *list, const struct setup *s)
 {
     int i = (int)upto((uint64_t)k->slices);
     if (one_in((uint64_t)k->slices))
         damage_length(&list[i].length);
+    else if (k->words[i] == 'u' && one_in(2))
+        damage_owner(list[i].at, s);
     else
         damage_word(list[i].at, list[i].length, k->widths[i]);
 }
@@ -435,7 +487,7 @@ static void make_round(const struct controller *k,
         struct call c = random_call(&s, k->place == 0);
         if (one_in(3)) {
             copy_slices(&damaged, m.list, k->slices);
-            damage(k, damaged.list);
+            damage(k, damaged.list, &s);
             make(k, damaged.list, &c);
         } else {
             make(k, m.list, &c);

@@ -12,16 +12,19 @@
 #include <string.h>
 
 struct setup {
-    uint64_t nr, na, nm;
+    uint64_t nr, na, nm, ncblks, u;
 };
 
-enum { NBWBLKS = 60000, MRBWB = 50000, Q = 65536, W = 40, NCBLKS = 48, CALLS = 256 };
-#define BLOCKS (UINT64_MAX >> (64 - NCBLKS))
+static const struct setup setups[] = {
+    {4, 2, 4, 16, 4}, {64, 2, 16, 32, 16}, {256, 8, 256, 64, 64}};
+enum { SETUPS = sizeof setups / sizeof setups[0] };
 
-/* Arguments of a call; which is the kind of a request or the block, ta names
- * RCID and MCID in a device context. */
+enum { NBWBLKS = 60000, MRBWB = 50000, Q = 65536, W = 40, CALLS = 256 };
+
+/* Arguments of a call; which is the kind of a request, ctl performs CONFIG_LIMIT and
+ * flush FLUSH_RCID, ta names RCID and MCID in a device context. */
 struct arguments {
-    uint64_t rcid, mcid, at, which, ctl, ta;
+    uint64_t rcid, mcid, at, which, ctl, flush, ta, unit;
     uint32_t bytes;
 };
 
@@ -52,11 +55,11 @@ static void state_after_reset(const struct setup *s)
 {
     memset(&start, 0, sizeof start);
     bandwidth_lengths(&start.bandwidth, s->nr, s->na, s->nm);
-    capacity_lengths(&start.capacity, s->nr, s->na, s->nm);
+    capacity_lengths(&start.capacity, s->ncblks, s->nr, s->na, s->nm, s->u);
     must(cbqri_bandwidth_reset(NBWBLKS, MRBWB, s->nr, s->na, s->nm, Q, W,
                                BANDWIDTH_OF(&start.bandwidth)), "reset");
-    must(cbqri_capacity_reset(NCBLKS, s->nr, s->na, s->nm, W, CAPACITY_OF(&start.capacity)),
-         "reset");
+    must(cbqri_capacity_reset(s->ncblks, s->nr, s->na, s->nm, W, s->u,
+                              CAPACITY_OF(&start.capacity)), "reset");
 }
 
 /* AT 0 holds; of the others about two thirds hold, one in six shares AT 0 and
@@ -79,15 +82,30 @@ static void mixed_monitor(void *counters, void *events, const struct setup *s,
     }
 }
 
+/* Some owner of a unit. */
+static uint64_t mixed_owner(const struct setup *s)
+{
+    uint64_t rcid = upto(s->nr), mcid = upto(s->nm);
+    return cbqri_owner(rcid, mcid, upto(s->na));
+}
+
+/* Masks of half of the blocks, one in four empty; of eight units seven are owned. */
+static void mixed_capacity(struct capacity_buffers *c, const struct setup *s)
+{
+    uint64_t blocks = UINT64_MAX >> (64 - s->ncblks);
+    for (uint64_t i = 0; i < s->nr * s->na; i++)
+        put_word(c->masks, i, 8, upto(4) ? next_random(&seed) & blocks : 0);
+    for (uint64_t i = 0; i < s->ncblks * s->u; i++)
+        put_word(c->owners, i, 4, upto(8) ? mixed_owner(s) : 0);
+    mixed_monitor(c->counters, c->events, s, 1);
+}
+
 /* Holders, sharers and unset pairs; each RCID has a weight of its own, and all
  * holders have one; half of them have used something; two RCIDs have 20 blocks
  * more configured since the last window end. */
-static void state_mixed(const struct setup *s)
+static void mixed_bandwidth(struct bandwidth_buffers *b, const struct setup *s)
 {
-    struct bandwidth_buffers *b = &start.bandwidth;
-    struct capacity_buffers *c = &start.capacity;
     uint64_t weight = 0;
-    state_after_reset(s);
     for (uint64_t i = 0; i < s->nr * s->na; i++) {
         weight = i % s->na == 0 ? 1 + upto(255) : weight;
         uint64_t word = mixed_setting(i % s->na, weight);
@@ -95,7 +113,6 @@ static void state_mixed(const struct setup *s)
         put_word(b->configured, i, 4, word);
         if ((word & 0xffff) && upto(2))
             put_word(b->used, i, 4, upto(Q / 2));
-        put_word(c->masks, i, 8, upto(4) ? next_random(&seed) & BLOCKS : 0);
     }
     for (int i = 0; i < 2; i++) {
         uint64_t pair = upto(s->nr) * s->na;
@@ -103,7 +120,6 @@ static void state_mixed(const struct setup *s)
     }
     put_word(b->record, 11, 8, 12345);
     mixed_monitor(b->counters, b->events, s, 3);
-    mixed_monitor(c->counters, c->events, s, 1);
     must(cbqri_bandwidth_write(BANDWIDTH_OF(b), 8, CBQRI_ALLOC_CTL, 2), "state");
 }
 
@@ -127,7 +143,9 @@ static void make_list(const struct setup *s, int mixed)
         list[i] = (struct arguments){
             .rcid = upto(s->nr), .mcid = upto(s->nm), .at = upto(s->na),
             .which = upto(2), .bytes = 1 + (uint32_t)upto(63),
+            .unit = upto(s->ncblks * s->u),
             .ctl = cbqri_alloc_ctl(CBQRI_CONFIG_LIMIT, 0, rcid)};
+        list[i].flush = cbqri_alloc_ctl(CBQRI_FLUSH_RCID, 0, list[i].rcid);
         list[i].ta = cbqri_dc_ta(list[i].rcid, list[i].mcid);
     }
 }
@@ -136,10 +154,11 @@ static void make_list(const struct setup *s, int mixed)
 static void make_inputs(const struct setup *s, int mixed)
 {
     seed = 2023;
-    if (mixed)
-        state_mixed(s);
-    else
-        state_after_reset(s);
+    state_after_reset(s);
+    if (mixed) {
+        mixed_bandwidth(&start.bandwidth, s);
+        mixed_capacity(&start.capacity, s);
+    }
     make_list(s, mixed);
 }
 

@@ -27,15 +27,14 @@ struct interface {
                                uint64_t *need);
     uint64_t (*bandwidth_end_window)(BANDWIDTH_SLICES());
     uint64_t (*capacity_reset)(uint64_t ncblks, uint64_t nr, uint64_t na,
-                               uint64_t nm, uint64_t w, CAPACITY_SLICES());
+                               uint64_t nm, uint64_t w, uint64_t u, CAPACITY_SLICES());
     uint64_t (*capacity_read)(CAPACITY_SLICES(const), uint64_t size,
                               uint64_t offset, uint64_t *value);
     uint64_t (*capacity_write)(CAPACITY_SLICES(), uint64_t size,
                                uint64_t offset, uint64_t value);
     uint64_t (*capacity_fill)(CAPACITY_SLICES(), uint64_t rcid, uint64_t mcid,
-                              uint64_t at, uint64_t block, uint64_t *allowed);
-    uint64_t (*capacity_evict)(CAPACITY_SLICES(), uint64_t rcid, uint64_t mcid,
-                               uint64_t at, uint64_t block);
+                              uint64_t at, uint64_t unit, uint64_t *allowed);
+    uint64_t (*capacity_evict)(CAPACITY_SLICES(), uint64_t unit);
 };
 
 #define INTERFACE(label, prefix)                                               \
@@ -49,7 +48,7 @@ struct interface {
             JOIN(prefix, capacity_fill), JOIN(prefix, capacity_evict)          \
     }
 
-enum { MAX_PAIRS = 256 * 8, MAX_MCIDS = 256, MAX_RCIDS = 256 };
+enum { MAX_PAIRS = 256 * 8, MAX_MCIDS = 256, MAX_RCIDS = 256, MAX_UNITS = 64 * 64 };
 
 /* Buffers of either controller, large enough for every set-up; lengths are in
  * bytes. A little-endian host has the same bytes in the tables whichever way
@@ -64,10 +63,11 @@ struct bandwidth_buffers {
 };
 
 struct capacity_buffers {
-    uint8_t record[72];
+    uint8_t record[80];
     uint64_t masks[MAX_PAIRS], counters[MAX_MCIDS];
     uint16_t events[MAX_MCIDS];
-    size_t record_len, masks_len, counters_len, events_len;
+    uint32_t owners[MAX_UNITS];
+    size_t record_len, masks_len, counters_len, events_len, owners_len;
 };
 
 #define BANDWIDTH_OF(b)                                                        \
@@ -79,7 +79,7 @@ struct capacity_buffers {
 #define CAPACITY_OF(c)                                                         \
     (c)->record, (c)->record_len, (uint8_t *)(c)->masks, (c)->masks_len,       \
         (uint8_t *)(c)->counters, (c)->counters_len, (uint8_t *)(c)->events,   \
-        (c)->events_len
+        (c)->events_len, (uint8_t *)(c)->owners, (c)->owners_len
 
 static inline void bandwidth_lengths(struct bandwidth_buffers *b, uint64_t nr,
                                      uint64_t na, uint64_t nm)
@@ -91,13 +91,14 @@ static inline void bandwidth_lengths(struct bandwidth_buffers *b, uint64_t nr,
     b->waiters_len = 8 * nr;
 }
 
-static inline void capacity_lengths(struct capacity_buffers *c, uint64_t nr,
-                                    uint64_t na, uint64_t nm)
+static inline void capacity_lengths(struct capacity_buffers *c, uint64_t ncblks, uint64_t nr,
+                                    uint64_t na, uint64_t nm, uint64_t u)
 {
     c->record_len = sizeof c->record;
     c->masks_len = 8 * nr * na;
     c->counters_len = 8 * nm;
     c->events_len = 2 * nm;
+    c->owners_len = 4 * ncblks * u;
 }
 
 /* Little-endian words of a record or table. */

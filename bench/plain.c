@@ -4,8 +4,8 @@
  * benchmark and a second opinion for tests. Compile with -DPREFIX=cbqri_ to
  * get the functions under the library's own names.
  *
- * tuned.c includes this file and has the tables checked by functions of its
- * own, named by the three macros below.
+ * tuned.c includes this file and has the tables checked, and an RCID flushed, by
+ * functions of its own, named by the macros below.
  */
 #include "plain.h"
 
@@ -16,6 +16,8 @@
 #define BANDWIDTH_TABLES_OK bandwidth_tables_ok
 #define WAITERS_OK waiters_ok
 #define CAPACITY_TABLES_OK capacity_tables_ok
+#define OWNERS_OK owners_ok
+#define FLUSH flush
 #endif
 
 #if __BYTE_ORDER__ != __ORDER_LITTLE_ENDIAN__
@@ -30,7 +32,7 @@ enum {
     REFUSED_OFFSET,
     REFUSED_VALUE,
     REFUSED_IDENTIFIER,
-    REFUSED_BLOCK,
+    REFUSED_UNIT,
     REFUSED_DEVICE_CONTEXT,
     REFUSED_ALREADY_WAITS,
     REFUSED_NO_BYTES
@@ -48,6 +50,12 @@ enum { CAPABILITIES = 0, MON_CTL = 8, MON_CTR_VAL = 16, ALLOC_CTL = 24, ALLOC = 
 #define MWEIGHT_LOW 20
 #define SHARED_AT_LOW 28
 
+/* FRCID of the capacity controller's capabilities. */
+#define FRCID (UINT64_C(1) << 24)
+
+/* OP of alloc_ctl; the last one is the capacity controller's. */
+enum { CONFIG_LIMIT = 1, READ_LIMIT, FLUSH_RCID };
+
 /* Fields of the control registers; STATUS is set by the operation alone. */
 #define CTL_AT UINT64_C(0xe0)
 #define CTL_ATV UINT64_C(0x10000000)
@@ -64,6 +72,11 @@ enum { CAPABILITIES = 0, MON_CTL = 8, MON_CTR_VAL = 16, ALLOC_CTL = 24, ALLOC = 
 #define WAITER_AT_LOW 40
 #define WAITER_WRITE_LOW 43
 #define WAITER_END 44
+
+/* Fields of a word of owners; the RCID is the lowest. */
+#define OWNER_MCID_LOW 8
+#define OWNER_AT_LOW 16
+#define OWNED_LOW 19
 
 /* Flags of the counter words. */
 #define BANDWIDTH_OVF (UINT64_C(1) << 63)
@@ -99,18 +112,19 @@ struct bandwidth {
 };
 
 struct capacity_record {
-    uint64_t ncblks, nr, na, nm, w;
+    uint64_t ncblks, nr, na, nm, w, u;
     struct registers registers;
 };
 
 struct capacity {
     struct capacity_record r;
-    uint8_t *record, *masks;
+    uint8_t *record, *masks, *owners;
     struct monitor monitor;
+    uint64_t units;
 };
 
 _Static_assert(sizeof(struct bandwidth_record) == 96, "twelve words");
-_Static_assert(sizeof(struct capacity_record) == 72, "nine words");
+_Static_assert(sizeof(struct capacity_record) == 80, "ten words");
 
 /* Loads, stores and fields */
 
@@ -190,7 +204,7 @@ static bool capacity_setup_good(const struct capacity_record *r)
 {
     return in_range(r->ncblks, 1, 64) && in_range(r->nr, 1, 256) &&
            in_range(r->na, 1, 8) && in_range(r->nm, 1, 256) &&
-           in_range(r->w, 24, 62);
+           in_range(r->w, 24, 62) && in_range(r->u, 1, 64);
 }
 
 static bool monitor_lengths_good(uint64_t nm, size_t counters_len,
@@ -222,6 +236,7 @@ static bool BANDWIDTH_TABLES_OK(struct bandwidth *b);
 static bool WAITERS_OK(struct bandwidth *b);
 /* Reads the masks, the counters and their settings. */
 static bool CAPACITY_TABLES_OK(const struct capacity *c);
+static bool OWNERS_OK(const struct capacity *c);
 
 static bool pair_ok(const uint8_t *row, uint64_t na, uint64_t at)
 {
@@ -325,6 +340,22 @@ static bool masks_ok(const struct capacity *c)
     return true;
 }
 
+static bool owner_ok(uint32_t word, const struct capacity_record *r)
+{
+    return word >> OWNED_LOW == 1 && field(word, 0, 8) < r->nr &&
+           field(word, OWNER_MCID_LOW, 8) < r->nm && field(word, OWNER_AT_LOW, 3) < r->na;
+}
+
+static bool owners_ok(const struct capacity *c)
+{
+    for (uint64_t i = 0; i < c->units; i++) {
+        uint32_t word = load32(c->owners, i);
+        if (word != 0 && !owner_ok(word, &c->r))
+            return false;
+    }
+    return true;
+}
+
 static bool bandwidth_tables_ok(struct bandwidth *b)
 {
     return settings_ok(b->active, &b->r, &b->active_sum) &&
@@ -364,11 +395,13 @@ static uint64_t bandwidth_attach(struct bandwidth *b, BANDWIDTH_SLICES())
 static uint64_t capacity_attach(struct capacity *c, CAPACITY_SLICES())
 {
     (void)record_len;
-    if (masks_len != 8 * c->r.nr * c->r.na ||
+    c->units = c->r.ncblks * c->r.u;
+    if (masks_len != 8 * c->r.nr * c->r.na || owners_len != 4 * c->units ||
         !monitor_lengths_good(c->r.nm, counters_len, events_len))
         return REFUSED_LENGTH;
     c->record = record;
     c->masks = masks;
+    c->owners = owners;
     c->monitor = (struct monitor){c->r.na, c->r.nm, CAPACITY_LAST_EVENT, counters, events};
     return 0;
 }
@@ -381,7 +414,8 @@ static uint64_t capacity_attach(struct capacity *c, CAPACITY_SLICES())
         (uint8_t *)waiters, waiters_len
 #define CAPACITY_PASSED                                                        \
     (uint8_t *)record, record_len, (uint8_t *)masks, masks_len,                \
-        (uint8_t *)counters, counters_len, (uint8_t *)events, events_len
+        (uint8_t *)counters, counters_len, (uint8_t *)events, events_len,      \
+        (uint8_t *)owners, owners_len
 
 /* Checks 1 to 3. */
 static uint64_t bandwidth_open(struct bandwidth *b, BANDWIDTH_SLICES())
@@ -411,7 +445,7 @@ static uint64_t capacity_open(struct capacity *c, CAPACITY_SLICES())
     if (refusal)
         return refusal;
     if (!registers_ok(&c->r.registers, c->r.na, block_bits(c->r.ncblks)) ||
-        !CAPACITY_TABLES_OK(c))
+        !CAPACITY_TABLES_OK(c) || !OWNERS_OK(c))
         return REFUSED_STATE;
     return 0;
 }
@@ -521,15 +555,15 @@ static void perform_monitor(struct monitor *m, uint64_t value, struct registers 
 
 /* Allocation operations */
 
-/* STATUS 2 to 4, which both controllers share; 1 if none applies. */
-static uint64_t alloc_status(uint64_t ctl, uint64_t nr, uint64_t na)
+/* STATUS 2 to 4 of the operations up to last; 1 if none applies. */
+static uint64_t alloc_status(uint64_t ctl, uint64_t last, uint64_t nr, uint64_t na)
 {
     uint64_t op = field(ctl, 0, 5);
-    if (op != 1 && op != 2)
+    if (!in_range(op, CONFIG_LIMIT, last))
         return 2;
     if (field(ctl, 8, 12) >= nr)
         return 3;
-    if (field(ctl, 5, 3) >= na)
+    if (op != FLUSH_RCID && field(ctl, 5, 3) >= na)
         return 4;
     return 1;
 }
@@ -593,9 +627,9 @@ static void bandwidth_perform_alloc(struct bandwidth *b, uint64_t value)
 {
     uint64_t ctl = alloc_ctl_fields(value, b->r.na);
     uint64_t rcid = field(ctl, 8, 12), at = field(ctl, 5, 3);
-    uint64_t status = alloc_status(ctl, b->r.nr, b->r.na);
+    uint64_t status = alloc_status(ctl, READ_LIMIT, b->r.nr, b->r.na);
     if (status == 1) {
-        if (field(ctl, 0, 5) == 1)
+        if (field(ctl, 0, 5) == CONFIG_LIMIT)
             status = config_limit(b, rcid, at);
         else
             b->r.registers.limit = load32(b->configured, rcid * b->r.na + at);
@@ -603,23 +637,7 @@ static void bandwidth_perform_alloc(struct bandwidth *b, uint64_t value)
     b->r.registers.alloc_ctl = ctl | status << 32;
 }
 
-static void capacity_perform_alloc(struct capacity *c, uint64_t value)
-{
-    uint64_t ctl = alloc_ctl_fields(value, c->r.na);
-    uint64_t pair = field(ctl, 8, 12) * c->r.na + field(ctl, 5, 3);
-    uint64_t status = alloc_status(ctl, c->r.nr, c->r.na);
-    if (status == 1) {
-        if (field(ctl, 0, 5) == 2)
-            c->r.registers.limit = load64(c->masks, pair);
-        else if (c->r.registers.limit == 0)
-            status = 5;
-        else
-            store64(c->masks, pair, c->r.registers.limit);
-    }
-    c->r.registers.alloc_ctl = ctl | status << 32;
-}
-
-/* Requests, waiters and cache events */
+/* Requests, waiters, and units of the cache */
 
 /* Whether the counter counts this kind (1 all, 2 reads, 3 writes, or 1
  * occupancy) and this AT. */
@@ -753,7 +771,7 @@ static void serve_pool(struct bandwidth *b, uint64_t weights)
 }
 
 /* Adds to or takes from a matching occupancy counter, within 0 to 2^W - 1. */
-static void count_block(struct capacity *c, uint64_t mcid, uint64_t at, bool fill)
+static void count_unit(struct capacity *c, uint64_t mcid, uint64_t at, bool fill)
 {
     uint32_t setting = load16(c->monitor.events, mcid);
     if (field(setting, 0, 8) != 1 || !at_matches(setting, at))
@@ -767,13 +785,45 @@ static void count_block(struct capacity *c, uint64_t mcid, uint64_t at, bool fil
     store64(c->monitor.counters, mcid, counter);
 }
 
-/* Checks 7 and 8. */
-static uint64_t check_cache_event(const struct capacity *c, uint64_t rcid,
-                                  uint64_t mcid, uint64_t block)
+/* Frees a unit, counting for its owner; a free unit stays as it is. */
+static void evict(struct capacity *c, uint64_t unit)
 {
-    if (rcid >= c->r.nr || mcid >= c->r.nm)
-        return REFUSED_IDENTIFIER;
-    return block >= c->r.ncblks ? REFUSED_BLOCK : 0;
+    uint32_t owner = load32(c->owners, unit);
+    if (owner == 0)
+        return;
+    count_unit(c, field(owner, OWNER_MCID_LOW, 8), field(owner, OWNER_AT_LOW, 3), false);
+    store32(c->owners, unit, 0);
+}
+
+/* Evicts the units from first to before end that the RCID owns. */
+static void FLUSH(struct capacity *c, uint64_t rcid, uint64_t first, uint64_t end);
+
+static void flush(struct capacity *c, uint64_t rcid, uint64_t first, uint64_t end)
+{
+    for (uint64_t unit = first; unit < end; unit++) {
+        uint32_t owner = load32(c->owners, unit);
+        if (owner != 0 && field(owner, 0, 8) == rcid)
+            evict(c, unit);
+    }
+}
+
+static void capacity_perform_alloc(struct capacity *c, uint64_t value)
+{
+    uint64_t ctl = alloc_ctl_fields(value, c->r.na);
+    uint64_t op = field(ctl, 0, 5), rcid = field(ctl, 8, 12);
+    uint64_t pair = rcid * c->r.na + field(ctl, 5, 3);
+    uint64_t status = alloc_status(ctl, FLUSH_RCID, c->r.nr, c->r.na);
+    if (status == 1) {
+        if (op == FLUSH_RCID)
+            FLUSH(c, rcid, 0, c->units);
+        else if (op == READ_LIMIT)
+            c->r.registers.limit = load64(c->masks, pair);
+        else if (c->r.registers.limit == 0)
+            status = 5;
+        else
+            store64(c->masks, pair, c->r.registers.limit);
+    }
+    c->r.registers.alloc_ctl = ctl | status << 32;
 }
 
 /* The bandwidth controller's calls */
@@ -919,9 +969,9 @@ uint64_t NAME(bandwidth_end_window)(BANDWIDTH_SLICES())
 /* The capacity controller's calls */
 
 uint64_t NAME(capacity_reset)(uint64_t ncblks, uint64_t nr, uint64_t na,
-                              uint64_t nm, uint64_t w, CAPACITY_SLICES())
+                              uint64_t nm, uint64_t w, uint64_t u, CAPACITY_SLICES())
 {
-    struct capacity c = {.r = {ncblks, nr, na, nm, w, .registers = {0}}};
+    struct capacity c = {.r = {ncblks, nr, na, nm, w, u, .registers = {0}}};
     if (record_len != sizeof c.r || !capacity_setup_good(&c.r))
         return REFUSED_SETUP;
     uint64_t refusal = capacity_attach(&c, CAPACITY_PASSED);
@@ -932,6 +982,7 @@ uint64_t NAME(capacity_reset)(uint64_t ncblks, uint64_t nr, uint64_t na,
         store64(masks, at, block_bits(ncblks));
     memset(counters, 0, counters_len);
     memset(events, 0, events_len);
+    memset(owners, 0, owners_len);
     capacity_save(&c);
     return 0;
 }
@@ -945,7 +996,7 @@ uint64_t NAME(capacity_read)(CAPACITY_SLICES(const), uint64_t size,
     if (!refusal)
         refusal = check_access(size, offset);
     if (!refusal)
-        *value = read_register(&c.r.registers, 1 | c.r.ncblks << 8, size, offset);
+        *value = read_register(&c.r.registers, 1 | c.r.ncblks << 8 | FRCID, size, offset);
     return refusal;
 }
 
@@ -980,33 +1031,37 @@ uint64_t NAME(capacity_write)(CAPACITY_SLICES(), uint64_t size, uint64_t offset,
 }
 
 uint64_t NAME(capacity_fill)(CAPACITY_SLICES(), uint64_t rcid, uint64_t mcid,
-                             uint64_t at, uint64_t block, uint64_t *allowed)
+                             uint64_t at, uint64_t unit, uint64_t *allowed)
 {
     struct capacity c;
     *allowed = 0;
     uint64_t refusal = capacity_open(&c, CAPACITY_PASSED);
-    if (!refusal)
-        refusal = check_cache_event(&c, rcid, mcid, block);
     if (refusal)
         return refusal;
+    if (rcid >= c.r.nr || mcid >= c.r.nm)
+        return REFUSED_IDENTIFIER;
+    if (unit >= c.units)
+        return REFUSED_UNIT;
     if (at >= c.r.na)
         at = 0;
-    if (!(load64(masks, rcid * c.r.na + at) >> block & 1))
+    if (!(load64(masks, rcid * c.r.na + at) >> unit / c.r.u & 1))
         return 0;
     *allowed = 1;
-    count_block(&c, mcid, at, true);
+    evict(&c, unit);
+    store32(owners, unit,
+            (uint32_t)(rcid | mcid << OWNER_MCID_LOW | at << OWNER_AT_LOW | 1 << OWNED_LOW));
+    count_unit(&c, mcid, at, true);
     return 0;
 }
 
-uint64_t NAME(capacity_evict)(CAPACITY_SLICES(), uint64_t rcid, uint64_t mcid,
-                              uint64_t at, uint64_t block)
+uint64_t NAME(capacity_evict)(CAPACITY_SLICES(), uint64_t unit)
 {
     struct capacity c;
     uint64_t refusal = capacity_open(&c, CAPACITY_PASSED);
-    if (!refusal)
-        refusal = check_cache_event(&c, rcid, mcid, block);
     if (refusal)
         return refusal;
-    count_block(&c, mcid, at >= c.r.na ? 0 : at, false);
+    if (unit >= c.units)
+        return REFUSED_UNIT;
+    evict(&c, unit);
     return 0;
 }

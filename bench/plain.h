@@ -29,7 +29,7 @@
 #define CAPACITY_SLICES(Q)                                                     \
     Q uint8_t *record, size_t record_len, Q uint8_t *masks, size_t masks_len,  \
         Q uint8_t *counters, size_t counters_len, Q uint8_t *events,           \
-        size_t events_len
+        size_t events_len, Q uint8_t *owners, size_t owners_len
 
 #endif
 
@@ -52,12 +52,11 @@ uint64_t NAME(bandwidth_need)(BANDWIDTH_SLICES(const), uint64_t rcid, uint64_t *
 uint64_t NAME(bandwidth_end_window)(BANDWIDTH_SLICES());
 
 uint64_t NAME(capacity_reset)(uint64_t ncblks, uint64_t nr, uint64_t na,
-                              uint64_t nm, uint64_t w, CAPACITY_SLICES());
+                              uint64_t nm, uint64_t w, uint64_t u, CAPACITY_SLICES());
 uint64_t NAME(capacity_read)(CAPACITY_SLICES(const), uint64_t size,
                              uint64_t offset, uint64_t *value);
 uint64_t NAME(capacity_write)(CAPACITY_SLICES(), uint64_t size, uint64_t offset,
                               uint64_t value);
 uint64_t NAME(capacity_fill)(CAPACITY_SLICES(), uint64_t rcid, uint64_t mcid,
-                             uint64_t at, uint64_t block, uint64_t *allowed);
-uint64_t NAME(capacity_evict)(CAPACITY_SLICES(), uint64_t rcid, uint64_t mcid,
-                              uint64_t at, uint64_t block);
+                             uint64_t at, uint64_t unit, uint64_t *allowed);
+uint64_t NAME(capacity_evict)(CAPACITY_SLICES(), uint64_t unit);

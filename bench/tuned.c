@@ -1,6 +1,6 @@
 /*
- * plain.c with check 3 tuned by hand: loops without exits that gather what
- * must be 0 with |, so that the compiler turns them into vector code.
+ * plain.c with check 3 and a flush tuned by hand: loops without exits that gather
+ * what must be 0 with |, so that the compiler turns them into vector code.
  *
  * - Settings are read in parts of at most 128 words. A part that is all 0 is
  *   done at once, and so is a part of the configured table that equals the
@@ -12,6 +12,9 @@
  * - In a row, no bit of Mweight may be 1 in one pair and 0 in a holder. So the
  *   holders have one weight; a pair without Rbwb fails by its own weight.
  * - Both tests of a row are one, over a word of marks for each pair.
+ * - An owner's RCID, MCID or AT that is out of range shows as a carry once the
+ *   numbers that its field has beyond the range are added.
+ * - A flush passes over 16 units at a time if none of them is the RCID's.
  */
 #ifndef PREFIX
 #define PREFIX tuned_
@@ -19,11 +22,14 @@
 #define BANDWIDTH_TABLES_OK tuned_bandwidth_tables_ok
 #define WAITERS_OK tuned_waiters_ok
 #define CAPACITY_TABLES_OK tuned_capacity_tables_ok
+#define OWNERS_OK tuned_owners_ok
+#define FLUSH tuned_flush
 #include "plain.c"
 
 enum {
-    PART = 128, /* words of a part, at most */
-    SMALL = 6   /* tables up to this many words are read the plain way */
+    PART = 128,      /* words of a part, at most */
+    FLUSH_PART = 16, /* units that a flush looks at together */
+    SMALL = 6        /* tables up to this many words are read the plain way */
 };
 
 /* mark_bits[NA - 2][i]: bit 16 + AT, where AT is i modulo NA, and bits 31:24. */
@@ -281,4 +287,38 @@ static bool tuned_capacity_tables_ok(const struct capacity *c)
     return (any_word64(c->masks, c->r.nr * c->r.na) & ~block_bits(c->r.ncblks)) == 0 &&
            (any_word64(m->counters, m->nm) & ~CAPACITY_INVALID) >> c->r.w == 0 &&
            events_bad(m) == 0;
+}
+
+/* Not 0 if a word of owners is one that no fill stores. */
+static uint32_t owners_bad(const struct capacity *c)
+{
+    uint32_t beyond = (uint32_t)(256 - c->r.nr) | (uint32_t)(8 - c->r.na) << OWNER_AT_LOW;
+    uint32_t beyond_mcids = (uint32_t)(256 - c->r.nm) << OWNER_MCID_LOW;
+    uint32_t sums = 0, mcid_sums = 0, not_owned = 0, all = 0;
+    for (size_t i = 0; i < c->units; i++) {
+        uint32_t word = load32(c->owners, i);
+        sums |= (word & 0x700ff) + beyond; /* carries of RCID and AT: bits 8 and 19 */
+        mcid_sums |= (word & 0xff00) + beyond_mcids; /* bit 16 */
+        not_owned |= word >> OWNED_LOW == 0 ? word : 0;
+        all |= word;
+    }
+    return (sums & 0x80100) | (mcid_sums & 0x10000) | not_owned | all >> (OWNED_LOW + 1);
+}
+
+static bool tuned_owners_ok(const struct capacity *c)
+{
+    return c->units <= SMALL ? owners_ok(c) : owners_bad(c) == 0;
+}
+
+static void tuned_flush(struct capacity *c, uint64_t rcid, uint64_t first, uint64_t end)
+{
+    uint32_t owned = UINT32_C(1) << OWNED_LOW;
+    for (; end - first >= FLUSH_PART; first += FLUSH_PART) {
+        uint32_t any = 0;
+        for (uint64_t i = 0; i < FLUSH_PART; i++)
+            any |= (load32(c->owners, first + i) & (owned | 0xff)) == (owned | (uint32_t)rcid);
+        if (any)
+            flush(c, rcid, first, first + FLUSH_PART);
+    }
+    flush(c, rcid, first, end);
 }

@@ -6,7 +6,8 @@
  *
  * It has three parts: the machine (buffers, address map, traffic, devices), the
  * driver (reads and writes by address alone), and the story that main tells. In it
- * requests are granted in part, and some are put to wait instead of tried again.
+ * requests are granted in part, and some are put to wait instead of tried again;
+ * and a job's RCID is flushed from the cache before another job has it.
  */
 #include <cbqri.h>
 
@@ -17,13 +18,14 @@
 /* ---- The machine: buffers of both controllers ---- */
 
 enum { NR = 4, NA = 2, NM = 4, W = 24 };
-enum { NBWBLKS = 100, MRBWB = 80, Q = 64, NCBLKS = 40 };
+enum { NBWBLKS = 100, MRBWB = 80, Q = 64, NCBLKS = 40, U = 4 };
 
 static const struct cbqri_bw_setup bw_setup = {
     .nbwblks = NBWBLKS, .mrbwb = MRBWB, .nr = NR, .na = NA, .nm = NM, .q = Q, .w = W};
 static const struct cbqri_cc_setup cc_setup = {
-    .ncblks = NCBLKS, .nr = NR, .na = NA, .nm = NM, .w = W};
-static uint8_t bw_bytes[CBQRI_BW_LEN(NR, NA, NM)], cc_bytes[CBQRI_CC_LEN(NR, NA, NM)];
+    .ncblks = NCBLKS, .nr = NR, .na = NA, .nm = NM, .w = W, .u = U};
+static uint8_t bw_bytes[CBQRI_BW_LEN(NR, NA, NM)];
+static uint8_t cc_bytes[CBQRI_CC_LEN(NCBLKS, NR, NA, NM, U)];
 static struct cbqri_bw bw; /* views of these bytes, made by main */
 static struct cbqri_cc cc;
 
@@ -110,19 +112,19 @@ static void print_need(uint64_t rcid)
     printf("  RCID %" PRIu64 " needs %4" PRIu64 "%s\n", rcid, need, need ? "" : ", it is done");
 }
 
-static void fill(uint64_t rcid, uint64_t mcid, uint64_t at, uint64_t block)
+static void fill(uint64_t rcid, uint64_t mcid, uint64_t at, uint64_t unit)
 {
     uint64_t allowed;
-    must(cbqri_cc_fill(&cc, rcid, mcid, at, block, &allowed), "fill");
-    printf("  RCID %" PRIu64 " AT %" PRIu64 " MCID %" PRIu64 " fills block %2" PRIu64 ": %s\n",
-           rcid, at, mcid, block, allowed ? "allowed" : "not allowed");
+    must(cbqri_cc_fill(&cc, rcid, mcid, at, unit, &allowed), "fill");
+    printf("  RCID %" PRIu64 " AT %" PRIu64 " MCID %" PRIu64 " fills unit %3" PRIu64
+           " of block %2" PRIu64 ": %s\n", rcid, at, mcid, unit, unit / U,
+           allowed ? "allowed" : "not allowed");
 }
 
-static void evict(uint64_t rcid, uint64_t mcid, uint64_t at, uint64_t block)
+static void evict(uint64_t unit)
 {
-    must(cbqri_cc_evict(&cc, rcid, mcid, at, block), "evict");
-    printf("  RCID %" PRIu64 " AT %" PRIu64 " MCID %" PRIu64 " empties block %" PRIu64 "\n", rcid,
-           at, mcid, block);
+    must(cbqri_cc_evict(&cc, unit), "evict");
+    printf("  unit %3" PRIu64 " is evicted\n", unit);
 }
 
 static uint64_t word_at(const uint8_t *bytes, size_t length)
@@ -131,6 +133,17 @@ static uint64_t word_at(const uint8_t *bytes, size_t length)
     while (length-- > 0)
         word = word << 8 | bytes[length];
     return word;
+}
+
+/* The units that are not free, read from the table. */
+static void print_owners(void)
+{
+    for (unsigned unit = 0; unit < NCBLKS * U; unit++) {
+        uint64_t owner = word_at(cc.owners + 4 * unit, 4);
+        if (owner)
+            printf("  unit %3u: RCID %" PRIu64 " AT %" PRIu64 " MCID %" PRIu64 "\n", unit,
+                   owner & 0xff, owner >> 16 & 7, owner >> 8 & 0xff);
+    }
 }
 
 /* What governed in the window, read from the tables, and then its end. */
@@ -210,14 +223,20 @@ static void driver_counter(uint64_t base, uint64_t mcid)
            mmio_read(base + CBQRI_MON_CTR_VAL, 8));
 }
 
+static void driver_flush(uint64_t rcid)
+{
+    printf("driver: flush of RCID %" PRIu64 ": STATUS %" PRIu64 "\n", rcid,
+           driver_operation(CC_BASE, CBQRI_ALLOC_CTL, cbqri_alloc_ctl(CBQRI_FLUSH_RCID, 0, rcid)));
+}
+
 static void driver_probe(void)
 {
     uint64_t bandwidth = mmio_read(BW_BASE + CBQRI_CAPABILITIES, 8);
     uint64_t capacity = mmio_read(CC_BASE + CBQRI_CAPABILITIES, 8);
     printf("driver: bandwidth VER %" PRIu64 " NBWBLKS %" PRIu64 " MRBWB %" PRIu64
-           ", capacity VER %" PRIu64 " NCBLKS %" PRIu64 "\n\n", bandwidth & 0xff,
-           bandwidth >> 8 & 0xffff, bandwidth >> 32 & 0xffff, capacity & 0xff,
-           capacity >> 8 & 0xffff);
+           ", capacity VER %" PRIu64 " NCBLKS %" PRIu64 " FRCID %" PRIu64 "\n\n",
+           bandwidth & 0xff, bandwidth >> 8 & 0xffff, bandwidth >> 32 & 0xffff, capacity & 0xff,
+           capacity >> 8 & 0xffff, capacity >> 24 & 1);
 }
 
 /* ---- The story ---- */
@@ -300,24 +319,45 @@ static void capacity_story(void)
     driver_event(CC_BASE, 1, CBQRI_EVENT_OCCUPANCY, 0, 0);
     driver_event(CC_BASE, 2, CBQRI_EVENT_OCCUPANCY, 1, 1);
     driver_event(CC_BASE, 2, CBQRI_EVENT_WRITES, 0, 0); /* no event of this controller */
-    fill(1, 1, 0, 3);
-    fill(1, 1, 0, 4);
-    fill(1, 1, 1, 4);
-    fill(1, 2, 1, 39);
-    fill(1, 2, 0, 2); /* allowed, but MCID 2 counts AT 1 alone */
+    fill(1, 1, 0, 15); /* the last unit of block 3 */
+    fill(1, 1, 0, 16); /* block 4 is AT 1's */
+    fill(1, 1, 1, 16);
+    fill(1, 2, 1, 159);
+    fill(1, 2, 0, 8); /* allowed, but MCID 2 counts AT 1 alone */
     driver_counter(CC_BASE, 1);
     driver_counter(CC_BASE, 2);
-    evict(1, 1, 0, 3);
-    evict(1, 2, 1, 39);
-    evict(1, 2, 1, 38); /* never filled: the counter stays at 0 and becomes INVALID */
+    fill(0, 0, 0, 16); /* what RCID 1 had there is evicted first */
+    evict(159);
+    evict(159); /* it is free, and nothing changes */
     driver_counter(CC_BASE, 1);
     driver_counter(CC_BASE, 2);
+    driver_event(CC_BASE, 2, CBQRI_EVENT_OCCUPANCY, 0, 0); /* too late: MCID 2 owns unit 8 */
+    evict(8); /* so the counter stays at 0 and becomes INVALID */
+    driver_counter(CC_BASE, 2);
+}
+
+/* RCID 1 and MCID 1 pass to another job. The old job's lines are still in the cache, so
+ * the driver flushes the RCID first: the new job starts without them. */
+static void next_job_story(void)
+{
+    printf("\n");
+    fill(1, 1, 1, 20);
+    printf("the job of RCID 1 ends, and these units have owners\n");
+    print_owners();
+    driver_counter(CC_BASE, 1);
+    driver_flush(1); /* the units of both ATs */
+    driver_counter(CC_BASE, 1);
+    print_owners();
+    printf("the next job has RCID 1\n");
+    fill(1, 1, 0, 0); /* the masks are still those that the driver set */
+    driver_counter(CC_BASE, 1); /* the new job's unit alone */
+    driver_flush(NR); /* there is no RCID 4 */
 }
 
 int main(void)
 {
     bw = cbqri_bw_view(bw_bytes, NR, NA, NM);
-    cc = cbqri_cc_view(cc_bytes, NR, NA, NM);
+    cc = cbqri_cc_view(cc_bytes, NCBLKS, NR, NA, NM, U);
     must(cbqri_bw_reset(&bw, &bw_setup), "reset");
     must(cbqri_cc_reset(&cc, &cc_setup), "reset");
     driver_probe();
@@ -325,5 +365,6 @@ int main(void)
     device_story();
     waiter_story();
     capacity_story();
+    next_job_story();
     return 0;
 }

@@ -3,8 +3,8 @@
  * them: the call with the board's memcpy and memset, and what its caller does
  * to hand over the arguments. Under qemu with -icount the counter is exact and
  * the output always the same. A number is the mean of CALLS calls with random
- * arguments, each on the same state: most pairs set, or after a reset. None waits,
- * but in the line that says so a request under every RCID.
+ * arguments, each on the same state: most pairs set and most units owned, or after a
+ * reset. None waits, but in the line that says so a request under every RCID.
  */
 #include "../bench/inputs.h"
 
@@ -20,14 +20,15 @@ static uint64_t out, pool, refused;
 static const struct setup *size;
 
 /* The instructions of one call. */
-#define COUNT(name, ...)                                                                  \
+#define COUNT_OF(name, function, ...)                                                     \
     __attribute__((noinline)) static uint64_t name(const struct arguments *a)             \
     {                                                                                     \
         uint64_t from = instructions();                                                   \
-        refused |= cbqri_##name(__VA_ARGS__);                                             \
+        refused |= function(__VA_ARGS__);                                                 \
         (void)a;                                                                          \
         return instructions() - from;                                                     \
     }
+#define COUNT(name, ...) COUNT_OF(name, cbqri_##name, __VA_ARGS__)
 #define BANDWIDTH BANDWIDTH_OF(&now.bandwidth)
 #define CAPACITY CAPACITY_OF(&now.capacity)
 COUNT(bandwidth_reset, NBWBLKS, MRBWB, size->nr, size->na, size->nm, Q, W, BANDWIDTH)
@@ -39,11 +40,12 @@ COUNT(bandwidth_device_request, BANDWIDTH, CBQRI_IOMMU_DIRECTORY, a->ta, a->at, 
 COUNT(bandwidth_wait, BANDWIDTH, a->rcid, a->mcid, a->at, a->which, a->bytes)
 COUNT(bandwidth_need, BANDWIDTH, a->rcid, &out)
 COUNT(bandwidth_end_window, BANDWIDTH)
-COUNT(capacity_reset, NCBLKS, size->nr, size->na, size->nm, W, CAPACITY)
+COUNT(capacity_reset, size->ncblks, size->nr, size->na, size->nm, W, size->u, CAPACITY)
 COUNT(capacity_read, CAPACITY, 8, CBQRI_BLOCK_MASK, &out)
 COUNT(capacity_write, CAPACITY, 8, CBQRI_ALLOC_CTL, a->ctl)
-COUNT(capacity_fill, CAPACITY, a->rcid, a->mcid, a->at, a->bytes % NCBLKS, &out)
-COUNT(capacity_evict, CAPACITY, a->rcid, a->mcid, a->at, a->bytes % NCBLKS)
+COUNT_OF(capacity_flush, cbqri_capacity_write, CAPACITY, 8, CBQRI_ALLOC_CTL, a->flush)
+COUNT(capacity_fill, CAPACITY, a->rcid, a->mcid, a->at, a->unit, &out)
+COUNT(capacity_evict, CAPACITY, a->unit)
 
 #define NAMED(name) {"cbqri_" #name, name, 0}
 static const struct entry {
@@ -55,13 +57,11 @@ static const struct entry {
     NAMED(bandwidth_request), NAMED(bandwidth_device_request), NAMED(bandwidth_wait),
     NAMED(bandwidth_need), NAMED(bandwidth_end_window),
     {"cbqri_bandwidth_end_window, all wait:", bandwidth_end_window, 1},
-    NAMED(capacity_reset), NAMED(capacity_read), NAMED(capacity_write), NAMED(capacity_fill),
-    NAMED(capacity_evict),
+    NAMED(capacity_reset), NAMED(capacity_read), NAMED(capacity_write),
+    {"cbqri_capacity_write, FLUSH_RCID:", capacity_flush, 0},
+    NAMED(capacity_fill), NAMED(capacity_evict),
 };
 enum { ENTRIES = sizeof entries / sizeof entries[0] };
-
-static const struct setup setups[] = {{4, 2, 4}, {64, 2, 16}, {256, 8, 256}};
-enum { SETUPS = sizeof setups / sizeof setups[0] };
 
 /* Both CONFIG_LIMITs have an operand that can be taken. */
 static void make_start(int mixed)
@@ -85,6 +85,16 @@ static uint64_t mean(const struct entry *entry)
     return (sum + CALLS / 2) / CALLS;
 }
 
+static void print_head(void)
+{
+    printf("instructions of a call, most pairs set and units owned, and after a reset, at");
+    for (int s = 0; s < SETUPS; s++)
+        printf("%s %" PRIu64 " x %" PRIu64 " with %" PRIu64 " MCIDs and %" PRIu64 " x %" PRIu64
+               " units", s ? "," : "", setups[s].nr, setups[s].na, setups[s].nm,
+               setups[s].ncblks, setups[s].u);
+    printf("\n");
+}
+
 int main(void)
 {
     static uint64_t means[ENTRIES][SETUPS][2];
@@ -96,11 +106,7 @@ int main(void)
                 means[i][s][mixed] = mean(&entries[i]);
         }
     }
-    printf("instructions of a call, most pairs set and after a reset, at");
-    for (int s = 0; s < SETUPS; s++)
-        printf(" %" PRIu64 " x %" PRIu64 ",", setups[s].nr, setups[s].na);
-    printf(" with %" PRIu64 ", %" PRIu64 ", %" PRIu64 " MCIDs\n", setups[0].nm, setups[1].nm,
-           setups[2].nm);
+    print_head();
     for (int i = 0; i < ENTRIES; i++) {
         printf("%s", entries[i].name);
         for (int s = 0; s < SETUPS; s++)

@@ -48,10 +48,11 @@ static uint64_t used_stack(void)
 
 /* ---- The calls: each entry point, on set-ups from the smallest to the largest ---- */
 
-static const struct { uint64_t nr, na, nm; } sizes[] = {
-    {1, 1, 1}, {4, 2, 4}, {16, 8, 64}, {64, 2, 16}, {43, 3, 100}, {256, 8, 256}};
+static const struct { uint64_t nr, na, nm, ncblks, u; } sizes[] = {
+    {1, 1, 1, 1, 1}, {4, 2, 4, 16, 4}, {16, 8, 64, 40, 8}, {64, 2, 16, 32, 16},
+    {43, 3, 100, 33, 5}, {256, 8, 256, 64, 64}};
 enum { SIZES = sizeof sizes / sizeof sizes[0] };
-static uint64_t nr, na, nm, offset, value, out, pool;
+static uint64_t nr, na, nm, ncblks, u, offset, value, out, pool;
 static struct bandwidth_buffers bw;
 static struct capacity_buffers cc;
 
@@ -70,11 +71,11 @@ ENTRY(bandwidth_device_request, BANDWIDTH_OF(&bw), CBQRI_IOMMU_DIRECTORY, cbqri_
 ENTRY(bandwidth_wait, BANDWIDTH_OF(&bw), 0, 0, 0, 1, 6000)
 ENTRY(bandwidth_need, BANDWIDTH_OF(&bw), 0, &out)
 ENTRY(bandwidth_end_window, BANDWIDTH_OF(&bw))
-ENTRY(capacity_reset, 40, nr, na, nm, 24, CAPACITY_OF(&cc))
+ENTRY(capacity_reset, ncblks, nr, na, nm, 24, u, CAPACITY_OF(&cc))
 ENTRY(capacity_read, CAPACITY_OF(&cc), 8, offset, &out)
 ENTRY(capacity_write, CAPACITY_OF(&cc), 8, offset, value)
-ENTRY(capacity_fill, CAPACITY_OF(&cc), 0, 0, 0, 3, &out)
-ENTRY(capacity_evict, CAPACITY_OF(&cc), 0, 0, 0, 3)
+ENTRY(capacity_fill, CAPACITY_OF(&cc), 0, 0, 0, 0, &out)
+ENTRY(capacity_evict, CAPACITY_OF(&cc), 0)
 
 #define NAMED(name) {"cbqri_" #name, name}
 static const struct { const char *name; uint64_t (*call)(void); } entries[] = {
@@ -94,23 +95,34 @@ static uint64_t measure(uint64_t (*call)(void))
     return used_stack();
 }
 
-/* The largest over every register; bw_alloc or block_mask first, so that CONFIG_LIMIT has an
- * operand. Under RCID 0 a request waits, but where one is put to wait. */
-static uint64_t largest(uint64_t (*call)(void), int size)
+static void set_up(int size)
 {
-    uint64_t largest = 0;
     nr = sizes[size].nr;
     na = sizes[size].na;
     nm = sizes[size].nm;
+    ncblks = sizes[size].ncblks;
+    u = sizes[size].u;
     bandwidth_lengths(&bw, nr, na, nm);
-    capacity_lengths(&cc, nr, na, nm);
+    capacity_lengths(&cc, ncblks, nr, na, nm, u);
     refused |= bandwidth_reset() | capacity_reset();
-    value = cbqri_mon_ctl(CBQRI_CONFIG_EVENT, 0, 0, CBQRI_EVENT_BYTES, 0);
+}
+
+/* The largest over every register and operation; bw_alloc or block_mask first, so that
+ * CONFIG_LIMIT has an operand. RCID 0 owns unit 0, and under it a request waits, but where
+ * one is put to wait. */
+static uint64_t largest(uint64_t (*call)(void), int size)
+{
+    uint64_t largest = 0;
+    set_up(size);
     for (offset = CBQRI_SPAN; offset > 0;) {
         offset -= 8;
-        put_word(bw.waiters, 0, 8, call == bandwidth_wait ? 0 : cbqri_waiter(6000, 0, 0, 1));
-        uint64_t used = measure(call);
-        largest = used > largest ? used : largest;
+        for (uint64_t op = CBQRI_CONFIG_LIMIT; op <= CBQRI_FLUSH_RCID; op++) {
+            value = cbqri_mon_ctl(op, 0, 0, CBQRI_EVENT_BYTES, 0);
+            put_word(bw.waiters, 0, 8, call == bandwidth_wait ? 0 : cbqri_waiter(6000, 0, 0, 1));
+            put_word(cc.owners, 0, 4, cbqri_owner(0, 0, 0));
+            uint64_t used = measure(call);
+            largest = used > largest ? used : largest;
+        }
     }
     return largest;
 }
@@ -118,10 +130,11 @@ static uint64_t largest(uint64_t (*call)(void), int size)
 int main(void)
 {
     FIND_BOTTOM();
-    printf("entry point, stack at set-ups of NR x NA x NM:");
+    printf("entry point, stack at set-ups of NR x NA x NM, NCBLKS x U:");
     for (int size = 0; size < SIZES; size++)
-        printf(" %" PRIu64 " x %" PRIu64 " x %" PRIu64, sizes[size].nr, sizes[size].na,
-               sizes[size].nm);
+        printf("%s %" PRIu64 " x %" PRIu64 " x %" PRIu64 ", %" PRIu64 " x %" PRIu64,
+               size ? ";" : "", sizes[size].nr, sizes[size].na, sizes[size].nm,
+               sizes[size].ncblks, sizes[size].u);
     for (unsigned i = 0; i < sizeof entries / sizeof entries[0]; i++) {
         printf("\n%s", entries[i].name);
         for (int size = 0; size < SIZES; size++)

@@ -92,21 +92,22 @@
  *   MRBWB    blocks that can be reserved          1 to NBWBLKS
  *   Q        bytes a block is worth in a window   1 to 65,536
  *   NCBLKS   capacity blocks                      1 to 64
+ *   U        units of a capacity block            1 to 64
  *
  *
  * RECORDS, in bytes from the start, 8 bytes for each number
  *
- *   bandwidth, 96 bytes              capacity, 72 bytes
+ *   bandwidth, 96 bytes              capacity, 80 bytes
  *    0 NBWBLKS                        0 NCBLKS
  *    8 MRBWB                          8 NR
  *   16 NR                            16 NA
  *   24 NA                            24 NM
  *   32 NM                            32 W
- *   40 Q                             40 mon_ctl
- *   48 W                             48 mon_ctr_val
- *   56 mon_ctl                       56 alloc_ctl
- *   64 mon_ctr_val                   64 block_mask
- *   72 alloc_ctl
+ *   40 Q                             40 U
+ *   48 W                             48 mon_ctl
+ *   56 mon_ctl                       56 mon_ctr_val
+ *   64 mon_ctr_val                   64 alloc_ctl
+ *   72 alloc_ctl                     72 block_mask
  *   80 bw_alloc
  *   88 bytes the pool gave in this window
  *
@@ -114,7 +115,9 @@
  * TABLES
  *
  * Those with a word for each pair hold the pair of RCID and AT at index
- * RCID * NA + AT; those of counters go by MCID, waiters by RCID.
+ * RCID * NA + AT; those of counters go by MCID, waiters by RCID. Owners go by
+ * unit: the units of a block stand side by side, those of block 0 first, so that
+ * a unit's block is its number divided by U, rounded down.
  *
  *   bandwidth: active      settings in force           4 bytes a pair
  *              configured  settings configured         4 bytes a pair
@@ -123,6 +126,7 @@
  *   both:      counters    counter words               8 bytes an MCID
  *              events      counter settings            2 bytes an MCID
  *   bandwidth: waiters     requests that wait          8 bytes an RCID
+ *   capacity:  owners      who owns each unit          4 bytes a unit
  *
  * A setting is 0 for a pair never set, or has the fields of bw_alloc: a holder
  * has useShared 0, Rbwb other than 0 and sharedAT 0; a sharer has useShared 1
@@ -131,7 +135,8 @@
  * in bits 7:0, AT in 10:8 and ATV in 11, and is 0 while the counter is stopped.
  * A word of waiters has the need, the bytes that the request still waits for, in
  * bits 31:0, MCID in 39:32, AT in 42:40 and write in 43, and is 0 where none
- * waits.
+ * waits. A word of owners has the RCID in bits 7:0, MCID in 15:8, AT in 18:16 and
+ * 1 in bit 19, and is 0 while the unit is free.
  *
  * Record and tables are well formed, as refusal 3 asks, when
  * - both settings tables hold only such words, and in each the holders of an
@@ -145,6 +150,8 @@
  *   if NA is above 1 and AT below NA, and AT 0 if ATV is 0;
  * - a word of waiters is 0 or has a need other than 0, MCID below NM, AT below NA
  *   and no bit above 43;
+ * - a word of owners is 0 or has bit 19, RCID below NR, MCID below NM, AT below NA
+ *   and no bit above 19;
  * - registers have no bit outside their fields, BUSY is 0 and, with NA 1, the
  *   AT and ATV of the control registers are 0.
  *
@@ -154,7 +161,7 @@
  * Each controller spans 40 bytes and is read and written in 4 or 8 bytes.
  *
  *    0 capabilities  VER 7:0 (0x01), and NBWBLKS 23:8, MRBWB 47:32 for
- *                    bandwidth, NCBLKS 23:8, FRCID 24 (0) for capacity
+ *                    bandwidth, NCBLKS 23:8, FRCID 24 (1) for capacity
  *    8 mon_ctl       OP 4:0, AT 7:5, MCID 19:8, EVT_ID 27:20, ATV 28,
  *                    STATUS 38:32, BUSY 39
  *   16 mon_ctr_val   bandwidth: CTR 61:0, INVALID 62, OVF 63
@@ -190,11 +197,11 @@
 #include <stdint.h>
 
 /* The version of this header and of the library beside it (CHANGELOG.md).
- * CBQRI_VERSION is one number, to be compared: 6001 for 0.6.1. */
+ * CBQRI_VERSION is one number, to be compared: 7000 for 0.7.0. */
 #define CBQRI_VERSION_MAJOR 0
-#define CBQRI_VERSION_MINOR 6
-#define CBQRI_VERSION_PATCH 1
-#define CBQRI_VERSION_STRING "0.6.1"
+#define CBQRI_VERSION_MINOR 7
+#define CBQRI_VERSION_PATCH 0
+#define CBQRI_VERSION_STRING "0.7.0"
 #define CBQRI_VERSION                                                                     \
     (CBQRI_VERSION_MAJOR * 1000000 + CBQRI_VERSION_MINOR * 1000 + CBQRI_VERSION_PATCH)
 
@@ -204,13 +211,14 @@ extern "C" {
 
 /* Lengths of records and tables in bytes. */
 #define CBQRI_BANDWIDTH_RECORD_LEN 96
-#define CBQRI_CAPACITY_RECORD_LEN 72
+#define CBQRI_CAPACITY_RECORD_LEN 80
 /* active, configured and used, each */
 #define CBQRI_SETTINGS_LEN(nr, na) (4 * (size_t)(nr) * (size_t)(na))
 #define CBQRI_MASKS_LEN(nr, na) (8 * (size_t)(nr) * (size_t)(na))
 #define CBQRI_COUNTERS_LEN(nm) (8 * (size_t)(nm))
 #define CBQRI_EVENTS_LEN(nm) (2 * (size_t)(nm))
 #define CBQRI_WAITERS_LEN(nr) (8 * (size_t)(nr))
+#define CBQRI_OWNERS_LEN(ncblks, u) (4 * (size_t)(ncblks) * (size_t)(u))
 
 /* Refusals. Of those that a call can give, the one with the lower number is checked first. */
 enum {
@@ -221,7 +229,7 @@ enum {
     CBQRI_REFUSED_OFFSET = 5,         /* offset no multiple of the size, or end beyond byte 40 */
     CBQRI_REFUSED_VALUE = 6,          /* 4-byte write of a value of 2^32 or more */
     CBQRI_REFUSED_IDENTIFIER = 7,     /* RCID at or above NR, or MCID at or above NM */
-    CBQRI_REFUSED_BLOCK = 8,          /* block at or above NCBLKS */
+    CBQRI_REFUSED_UNIT = 8,           /* unit at or above NCBLKS * U */
     CBQRI_REFUSED_DEVICE_CONTEXT = 9, /* a device context with an RCID or MCID as in 7 */
     CBQRI_REFUSED_ALREADY_WAITS = 10, /* a request already waits under that RCID */
     CBQRI_REFUSED_NO_BYTES = 11       /* a request for 0 bytes is put to wait */
@@ -242,6 +250,7 @@ enum {
 enum {
     CBQRI_CONFIG_LIMIT = 1,
     CBQRI_READ_LIMIT = 2,
+    CBQRI_FLUSH_RCID = 3, /* capacity */
     CBQRI_CONFIG_EVENT = 1,
     CBQRI_READ_COUNTER = 2
 };
@@ -252,7 +261,7 @@ enum {
     CBQRI_EVENT_BYTES = 1,    /* bandwidth: bytes read and written */
     CBQRI_EVENT_READS = 2,    /* bandwidth: bytes read */
     CBQRI_EVENT_WRITES = 3,   /* bandwidth: bytes written */
-    CBQRI_EVENT_OCCUPANCY = 1 /* capacity: blocks filled and not emptied */
+    CBQRI_EVENT_OCCUPANCY = 1 /* capacity: units filled and not evicted */
 };
 
 /* STATUS; the first that applies. An operation that ends in another STATUS
@@ -261,7 +270,7 @@ enum {
     CBQRI_STATUS_OK = 1,
     CBQRI_STATUS_BAD_OP = 2,          /* no such operation */
     CBQRI_STATUS_BAD_ID = 3,          /* RCID at or above NR, or MCID at or above NM */
-    CBQRI_STATUS_ALLOC_BAD_AT = 4,    /* alloc_ctl: AT at or above NA */
+    CBQRI_STATUS_ALLOC_BAD_AT = 4,    /* CONFIG_LIMIT, READ_LIMIT: AT at or above NA */
     CBQRI_STATUS_ALLOC_BAD_LIMIT = 5, /* CONFIG_LIMIT: bw_alloc or block_mask cannot be taken */
     CBQRI_STATUS_MON_BAD_EVENT = 4,   /* CONFIG_EVENT: no such EVT_ID */
     CBQRI_STATUS_MON_BAD_AT = 5       /* CONFIG_EVENT: ATV 1 and AT at or above NA */
@@ -321,6 +330,12 @@ static inline uint64_t cbqri_dc_ta(uint64_t rcid, uint64_t mcid)
 static inline uint64_t cbqri_waiter(uint32_t need, uint64_t mcid, uint64_t at, uint64_t write)
 {
     return need | (mcid & 0xff) << 32 | (at & 7) << 40 | (write & 1) << 43;
+}
+
+/* A word of owners: a unit that was filled for this RCID, MCID and AT. */
+static inline uint32_t cbqri_owner(uint64_t rcid, uint64_t mcid, uint64_t at)
+{
+    return (uint32_t)((rcid & 0xff) | (mcid & 0xff) << 8 | (at & 7) << 16 | UINT64_C(1) << 19);
 }
 
 /* STATUS of a control register's word. */
@@ -581,22 +596,36 @@ static inline uint64_t cbqri_bw_end_window(const struct cbqri_bw *c)
  * ends in STATUS 5 if block_mask is 0. Masks may overlap. READ_LIMIT copies
  * the pair's mask into block_mask. The monitoring operations are those of the
  * bandwidth controller.
+ *
+ * Each block has U units. A unit that was filled has an owner, the RCID, MCID and
+ * AT of that fill, until it is evicted. FLUSH_RCID evicts every unit that the RCID
+ * owns, whatever AT it names; masks and block_mask stay. A driver performs it before
+ * it gives an RCID to another job, as the old job's lines are still in the cache.
+ *
+ * Event 1 counts units: up by 1 as one is filled, down by 1 as one is evicted. At
+ * 2^W - 1 or at 0 the counter stays and becomes INVALID, which lasts until an event
+ * other than 0 is configured, or a reset. If an MCID owned no unit when its counter
+ * was configured with event 1 and ATV 0, then until it is configured anew or a
+ * reset comes the counter is valid and equals the units that the MCID owns.
  * ------------------------------------------------------------------------ */
 
 /* Sets the controller up anew, whatever record and tables held. RCID 0 has
- * every block for each AT; other masks, counters and registers are 0.
- * Refusals: 1, 2. */
+ * every block for each AT; other masks, counters and registers are 0, and all
+ * units are free. Refusals: 1, 2. */
 uint64_t cbqri_capacity_reset(uint64_t ncblks, uint64_t nr, uint64_t na, uint64_t nm, uint64_t w,
+                              uint64_t u,
                               uint8_t *record, size_t record_len,
                               uint8_t *masks, size_t masks_len,
                               uint8_t *counters, size_t counters_len,
-                              uint8_t *events, size_t events_len);
+                              uint8_t *events, size_t events_len,
+                              uint8_t *owners, size_t owners_len);
 
 /* As cbqri_bandwidth_read. */
 uint64_t cbqri_capacity_read(const uint8_t *record, size_t record_len,
                              const uint8_t *masks, size_t masks_len,
                              const uint8_t *counters, size_t counters_len,
                              const uint8_t *events, size_t events_len,
+                             const uint8_t *owners, size_t owners_len,
                              uint64_t size, uint64_t offset, uint64_t *value);
 
 /* As cbqri_bandwidth_write. */
@@ -604,69 +633,76 @@ uint64_t cbqri_capacity_write(uint8_t *record, size_t record_len,
                               uint8_t *masks, size_t masks_len,
                               uint8_t *counters, size_t counters_len,
                               uint8_t *events, size_t events_len,
+                              uint8_t *owners, size_t owners_len,
                               uint64_t size, uint64_t offset, uint64_t value);
 
-/* The cache wants to fill a block for this RCID and AT (at or above NA counts
- * as 0). *allowed is 1 if the pair's mask has the block, and a matching
- * occupancy counter goes up by 1; at 2^W - 1 it stays and becomes INVALID.
- * Otherwise *allowed is 0 and nothing has changed. Refusals: 1 to 3, 7, 8. */
+/* The cache wants to fill a unit for this RCID, MCID and AT (at or above NA counts
+ * as 0). *allowed is 1 if the mask of RCID and AT has the unit's block. Then the
+ * unit, if it is owned, is first evicted; RCID, MCID and AT are its owner from now
+ * on, and the counter of the MCID goes up if its event and AT match. Otherwise
+ * *allowed is 0 and nothing has changed. Refusals: 1 to 3, 7, 8. */
 uint64_t cbqri_capacity_fill(uint8_t *record, size_t record_len,
                              uint8_t *masks, size_t masks_len,
                              uint8_t *counters, size_t counters_len,
                              uint8_t *events, size_t events_len,
-                             uint64_t rcid, uint64_t mcid, uint64_t at, uint64_t block,
+                             uint8_t *owners, size_t owners_len,
+                             uint64_t rcid, uint64_t mcid, uint64_t at, uint64_t unit,
                              uint64_t *allowed);
 
-/* The cache emptied a block; no mask is asked. A matching occupancy counter
- * goes down by 1; at 0 it stays and becomes INVALID. INVALID lasts until an
- * event other than 0 is configured, or a reset. Refusals: 1 to 3, 7, 8. */
+/* The cache evicts what is in a unit; no mask is asked. The unit is free, and the
+ * counter of its owner's MCID goes down if its event and AT match. If the unit was
+ * free, nothing has changed. Refusals: 1 to 3, 8. */
 uint64_t cbqri_capacity_evict(uint8_t *record, size_t record_len,
                               uint8_t *masks, size_t masks_len,
                               uint8_t *counters, size_t counters_len,
                               uint8_t *events, size_t events_len,
-                              uint64_t rcid, uint64_t mcid, uint64_t at, uint64_t block);
+                              uint8_t *owners, size_t owners_len,
+                              uint64_t unit);
 
 /* ---- The same on a view ---- */
 
 /* Record and tables of a capacity controller. */
 struct cbqri_cc {
-    uint8_t *record, *masks, *counters, *events;
-    size_t record_len, masks_len, counters_len, events_len;
+    uint8_t *record, *masks, *counters, *events, *owners;
+    size_t record_len, masks_len, counters_len, events_len, owners_len;
 };
 
 struct cbqri_cc_setup {
-    uint64_t ncblks, nr, na, nm, w;
+    uint64_t ncblks, nr, na, nm, w, u;
 };
 
 /* Bytes of record and tables together. */
-#define CBQRI_CC_LEN(nr, na, nm)                                                          \
+#define CBQRI_CC_LEN(ncblks, nr, na, nm, u)                                               \
     (CBQRI_CAPACITY_RECORD_LEN + CBQRI_MASKS_LEN(nr, na) + CBQRI_COUNTERS_LEN(nm) +       \
-     CBQRI_EVENTS_LEN(nm))
+     CBQRI_EVENTS_LEN(nm) + CBQRI_OWNERS_LEN(ncblks, u))
 
-/* A view of CBQRI_CC_LEN(nr, na, nm) bytes: the record and then the tables, in
- * the order of the arguments above. */
-static inline struct cbqri_cc cbqri_cc_view(uint8_t *bytes, uint64_t nr, uint64_t na, uint64_t nm)
+/* A view of CBQRI_CC_LEN(ncblks, nr, na, nm, u) bytes: the record and then the
+ * tables, in the order of the arguments above. */
+static inline struct cbqri_cc cbqri_cc_view(uint8_t *bytes, uint64_t ncblks, uint64_t nr,
+                                            uint64_t na, uint64_t nm, uint64_t u)
 {
     struct cbqri_cc c;
     c.record_len = CBQRI_CAPACITY_RECORD_LEN;
     c.masks_len = CBQRI_MASKS_LEN(nr, na);
     c.counters_len = CBQRI_COUNTERS_LEN(nm);
     c.events_len = CBQRI_EVENTS_LEN(nm);
+    c.owners_len = CBQRI_OWNERS_LEN(ncblks, u);
     c.record = bytes;
     c.masks = c.record + c.record_len;
     c.counters = c.masks + c.masks_len;
     c.events = c.counters + c.counters_len;
+    c.owners = c.events + c.events_len;
     return c;
 }
 
 /* The buffers as arguments of the functions above. */
 #define CBQRI_CC_BUFFERS(c)                                                               \
     (c)->record, (c)->record_len, (c)->masks, (c)->masks_len, (c)->counters,              \
-        (c)->counters_len, (c)->events, (c)->events_len
+        (c)->counters_len, (c)->events, (c)->events_len, (c)->owners, (c)->owners_len
 
 static inline uint64_t cbqri_cc_reset(const struct cbqri_cc *c, const struct cbqri_cc_setup *s)
 {
-    return cbqri_capacity_reset(s->ncblks, s->nr, s->na, s->nm, s->w, CBQRI_CC_BUFFERS(c));
+    return cbqri_capacity_reset(s->ncblks, s->nr, s->na, s->nm, s->w, s->u, CBQRI_CC_BUFFERS(c));
 }
 
 static inline uint64_t cbqri_cc_read(const struct cbqri_cc *c, uint64_t size, uint64_t offset,
@@ -682,15 +718,14 @@ static inline uint64_t cbqri_cc_write(const struct cbqri_cc *c, uint64_t size, u
 }
 
 static inline uint64_t cbqri_cc_fill(const struct cbqri_cc *c, uint64_t rcid, uint64_t mcid,
-                                     uint64_t at, uint64_t block, uint64_t *allowed)
+                                     uint64_t at, uint64_t unit, uint64_t *allowed)
 {
-    return cbqri_capacity_fill(CBQRI_CC_BUFFERS(c), rcid, mcid, at, block, allowed);
+    return cbqri_capacity_fill(CBQRI_CC_BUFFERS(c), rcid, mcid, at, unit, allowed);
 }
 
-static inline uint64_t cbqri_cc_evict(const struct cbqri_cc *c, uint64_t rcid, uint64_t mcid,
-                                      uint64_t at, uint64_t block)
+static inline uint64_t cbqri_cc_evict(const struct cbqri_cc *c, uint64_t unit)
 {
-    return cbqri_capacity_evict(CBQRI_CC_BUFFERS(c), rcid, mcid, at, block);
+    return cbqri_capacity_evict(CBQRI_CC_BUFFERS(c), unit);
 }
 
 #ifdef __cplusplus

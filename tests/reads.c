@@ -12,7 +12,7 @@
 #include <stdlib.h>
 #include <sys/mman.h>
 
-enum { NR = 64, NA = 8, NM = 64, THREADS = 4, ROUNDS = 500 };
+enum { NCBLKS = 40, NR = 64, NA = 8, NM = 64, U = 16, THREADS = 4, ROUNDS = 500 };
 enum { PLACES = CBQRI_SPAN / 4 + 1, SIZES = 3 }; /* the last place and the last size are refused */
 enum { NUMBERS = 6, NEED = 4444 };
 
@@ -62,20 +62,22 @@ static uint8_t *pages(size_t length)
 static void set_up(void)
 {
     const struct cbqri_bw_setup bw_setup = {1000, 900, NR, NA, NM, 64, 24};
-    const struct cbqri_cc_setup cc_setup = {40, NR, NA, NM, 24};
-    uint64_t reserved, pool, refused;
+    const struct cbqri_cc_setup cc_setup = {NCBLKS, NR, NA, NM, 24, U};
+    const size_t cc_len = CBQRI_CC_LEN(NCBLKS, NR, NA, NM, U);
+    uint64_t reserved, pool, allowed, refused;
     bw = cbqri_bw_view(pages(CBQRI_BW_LEN(NR, NA, NM)), NR, NA, NM);
-    cc = cbqri_cc_view(pages(CBQRI_CC_LEN(NR, NA, NM)), NR, NA, NM);
+    cc = cbqri_cc_view(pages(cc_len), NCBLKS, NR, NA, NM, U);
     refused = cbqri_bw_reset(&bw, &bw_setup) | cbqri_cc_reset(&cc, &cc_setup);
     refused |= cbqri_bw_write(&bw, 8, CBQRI_MON_CTL, cbqri_mon_ctl(CBQRI_CONFIG_EVENT, 0, 3, 1, 0));
     refused |= cbqri_bw_request(&bw, 0, 3, 0, 0, 1234, &reserved, &pool);
     refused |= cbqri_bw_wait(&bw, 3, 3, 0, 0, NEED);
     refused |= cbqri_bw_write(&bw, 8, CBQRI_MON_CTL, cbqri_mon_ctl(CBQRI_READ_COUNTER, 0, 3, 0, 0));
     refused |= cbqri_bw_write(&bw, 8, CBQRI_ALLOC_CTL, cbqri_alloc_ctl(CBQRI_READ_LIMIT, 0, 0));
+    refused |= cbqri_cc_fill(&cc, 0, 3, 1, NCBLKS * U - 1, &allowed);
     refused |= cbqri_cc_write(&cc, 8, CBQRI_ALLOC_CTL, cbqri_alloc_ctl(CBQRI_READ_LIMIT, 1, 0));
-    must(refused == 0 && reserved == 1234 && pool == 0, "the set-up");
+    must(refused == 0 && reserved == 1234 && pool == 0 && allowed == 1, "the set-up");
     must(mprotect(bw.record, CBQRI_BW_LEN(NR, NA, NM), PROT_READ) == 0 &&
-             mprotect(cc.record, CBQRI_CC_LEN(NR, NA, NM), PROT_READ) == 0, "mprotect");
+             mprotect(cc.record, cc_len, PROT_READ) == 0, "mprotect");
 }
 
 int main(void)

@@ -45,7 +45,7 @@ macro_rules! bandwidth {
 }
 
 macro_rules! capacity {
-    ($($rest:tt)*) => { function!(CapacityBuffers [record masks counters events] $($rest)*); };
+    ($($rest:tt)*) => { function!(CapacityBuffers [record masks counters events owners] $($rest)*); };
 }
 
 bandwidth!(mut cbqri_bandwidth_reset(nbwblks, mrbwb, nr, na, nm, q, w;));
@@ -59,9 +59,9 @@ bandwidth!(mut cbqri_bandwidth_wait(; rcid: u64, mcid: u64, at: u64, kind: u64, 
 bandwidth!(const cbqri_bandwidth_need(; rcid: u64, need: &mut u64));
 bandwidth!(mut cbqri_bandwidth_end_window(;));
 
-capacity!(mut cbqri_capacity_reset(ncblks, nr, na, nm, w;));
+capacity!(mut cbqri_capacity_reset(ncblks, nr, na, nm, w, u;));
 capacity!(const cbqri_capacity_read(; size: u64, offset: u64, value: &mut u64));
 capacity!(mut cbqri_capacity_write(; size: u64, offset: u64, value: u64));
-capacity!(mut cbqri_capacity_fill(; rcid: u64, mcid: u64, at: u64, block: u64,
+capacity!(mut cbqri_capacity_fill(; rcid: u64, mcid: u64, at: u64, unit: u64,
     allowed: &mut u64));
-capacity!(mut cbqri_capacity_evict(; rcid: u64, mcid: u64, at: u64, block: u64));
+capacity!(mut cbqri_capacity_evict(; unit: u64));

@@ -60,7 +60,7 @@ mod parts;
 pub mod registers;
 
 pub use bandwidth::{Bandwidth, BandwidthBuffers, BandwidthSetup, Grant, Kind, Waiter};
-pub use capacity::{Capacity, CapacityBuffers, CapacitySetup};
+pub use capacity::{Capacity, CapacityBuffers, CapacitySetup, Owner};
 pub use parts::{Counter, Setting};
 
 use std::fmt;
@@ -76,7 +76,7 @@ pub const VERSION: &str = env!("CARGO_PKG_VERSION");
 /// ```
 /// use cbqri::{Capacity, CapacitySetup, Refusal};
 ///
-/// let wrong = CapacitySetup { ncblks: 65, nr: 4, na: 1, nm: 4, w: 24 };
+/// let wrong = CapacitySetup { ncblks: 65, nr: 4, na: 1, nm: 4, w: 24, u: 2 };
 /// assert_eq!(Capacity::new(wrong).err(), Some(Refusal::Setup));
 ///
 /// let mut cc = Capacity::new(CapacitySetup { ncblks: 64, ..wrong }).unwrap();
@@ -84,8 +84,8 @@ pub const VERSION: &str = env!("CARGO_PKG_VERSION");
 /// assert_eq!(cc.read(8, 36), Err(Refusal::Offset));
 /// assert_eq!(cc.write(4, 32, 1 << 32), Err(Refusal::Value));
 /// assert_eq!(cc.fill(4, 0, 0, 0), Err(Refusal::Identifier));
-/// assert_eq!(cc.fill(0, 0, 0, 64), Err(Refusal::Block));
-/// assert_eq!(Refusal::Block as u64, 8);
+/// assert_eq!(cc.fill(0, 0, 0, 128), Err(Refusal::Unit));
+/// assert_eq!(Refusal::Unit as u64, 8);
 /// ```
 #[derive(Clone, Copy, Debug, PartialEq, Eq, Hash)]
 #[non_exhaustive]
@@ -105,8 +105,8 @@ pub enum Refusal {
     Value = 6,
     /// RCID at or above NR, or MCID at or above NM.
     Identifier = 7,
-    /// Block at or above NCBLKS.
-    Block = 8,
+    /// Unit at or above NCBLKS * U.
+    Unit = 8,
     /// A device context with an RCID at or above NR, or an MCID at or above NM.
     DeviceContext = 9,
     /// A request already waits under that RCID.
@@ -127,7 +127,7 @@ impl Refusal {
             5 => Refusal::Offset,
             6 => Refusal::Value,
             7 => Refusal::Identifier,
-            8 => Refusal::Block,
+            8 => Refusal::Unit,
             9 => Refusal::DeviceContext,
             10 => Refusal::AlreadyWaits,
             11 => Refusal::NoBytes,
@@ -146,7 +146,7 @@ impl fmt::Display for Refusal {
             Refusal::Offset => "offset no multiple of the size, or the end beyond byte 40",
             Refusal::Value => "4-byte write of a value of 2^32 or more",
             Refusal::Identifier => "RCID at or above NR, or MCID at or above NM",
-            Refusal::Block => "block at or above NCBLKS",
+            Refusal::Unit => "unit at or above NCBLKS * U",
             Refusal::DeviceContext => {
                 "a device context with an RCID at or above NR, or an MCID at or above NM"
             }
@@ -179,7 +179,8 @@ pub enum Status {
     BadOp,
     /// 3: RCID at or above NR, or MCID at or above NM.
     BadId,
-    /// AT at or above NA: 4 in alloc_ctl, 5 in mon_ctl (there only with ATV 1).
+    /// AT at or above NA: 4 in alloc_ctl (not of FLUSH_RCID), 5 in mon_ctl (there only
+    /// with ATV 1).
     BadAt,
     /// 5 in alloc_ctl: CONFIG_LIMIT cannot take bw_alloc or block_mask.
     BadLimit,
@@ -215,7 +216,7 @@ impl Status {
 /// A table's length, or 0 for numbers outside the ranges: the library then
 /// refuses the set-up, and nothing large is allocated.
 fn table_len(width: usize, rows: u64, columns: u64) -> usize {
-    if rows <= 256 && columns <= 8 {
+    if rows <= 256 && columns <= 64 {
         width * rows as usize * columns as usize
     } else {
         0

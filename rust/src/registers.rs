@@ -32,6 +32,9 @@ pub const SPAN: u64 = 40;
 pub const CONFIG_LIMIT: u64 = 1;
 /// OP of alloc_ctl: copy what is configured into bw_alloc or block_mask.
 pub const READ_LIMIT: u64 = 2;
+/// OP of the capacity controller's alloc_ctl: evict every unit that the RCID owns,
+/// whatever AT is named; masks and block_mask stay.
+pub const FLUSH_RCID: u64 = 3;
 /// OP of mon_ctl: let a counter count an event.
 pub const CONFIG_EVENT: u64 = 1;
 /// OP of mon_ctl: copy a counter into mon_ctr_val.
@@ -45,7 +48,7 @@ pub const EVENT_BYTES: u64 = 1;
 pub const EVENT_READS: u64 = 2;
 /// Bandwidth: bytes written.
 pub const EVENT_WRITES: u64 = 3;
-/// Capacity: blocks filled and not emptied.
+/// Capacity: units filled and not evicted.
 pub const EVENT_OCCUPANCY: u64 = 1;
 
 /// INVALID of a bandwidth counter.

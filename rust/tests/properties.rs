@@ -135,11 +135,11 @@ fn device_requests(bw: &Bandwidth, random: &mut Random) {
 }
 
 fn capacity_call(cc: &mut Capacity, random: &mut Random) -> Result<(), Refusal> {
-    let CapacitySetup { ncblks, nr, na, nm, .. } = cc.setup();
+    let CapacitySetup { ncblks, nr, na, nm, u, .. } = cc.setup();
     let (rcid, mcid, at) = (random.about(nr), random.about(nm), random.about(na));
     match random.below(6) {
-        0 | 1 => cc.fill(rcid, mcid, at, random.about(ncblks)).map(|_| ()),
-        2 => cc.evict(rcid, mcid, at, random.about(ncblks)),
+        0 | 1 => cc.fill(rcid, mcid, at, random.about(ncblks * u)).map(|_| ()),
+        2 => cc.evict(random.about(ncblks * u)),
         _ => {
             let operand = random.below(1 << ncblks);
             let (size, offset, value) = random.write(nr, na, nm, operand);
@@ -181,7 +181,8 @@ fn random_calls() {
         let setup = BandwidthSetup { nbwblks: 100, mrbwb: 90, nr, na, nm, q: 64, w: 24 };
         let mut bw = Bandwidth::new(setup).unwrap();
         assert_eq!(bw.setup(), setup);
-        let setup = CapacitySetup { ncblks: 1 + random.below(40), nr, na, nm, w: 24 };
+        let (ncblks, u) = (1 + random.below(40), 1 + random.below(4));
+        let setup = CapacitySetup { ncblks, nr, na, nm, w: 24, u };
         let mut cc = Capacity::new(setup).unwrap();
         assert_eq!(cc.setup(), setup);
         for _ in 0..100 {
@@ -321,6 +322,6 @@ fn debug_is_short() {
     let setup = BandwidthSetup { nbwblks: 9, mrbwb: 9, nr: 256, na: 8, nm: 256, q: 1, w: 24 };
     let shown = format!("{:?}", Bandwidth::new(setup).unwrap());
     assert!(shown.len() < 2000, "{} bytes", shown.len());
-    let setup = CapacitySetup { ncblks: 64, nr: 256, na: 8, nm: 256, w: 24 };
+    let setup = CapacitySetup { ncblks: 64, nr: 256, na: 8, nm: 256, w: 24, u: 64 };
     assert!(format!("{:?}", Capacity::new(setup).unwrap()).len() < 2000);
 }
