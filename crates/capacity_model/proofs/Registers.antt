@@ -83,7 +83,7 @@ sets-call s =
     call-by s (λ k s′. Sets s s′ (onWrite k (λ size offset v. made v (access.writesLow offset access.allocCtl)) []) (isReset k)) (λ u. anew)
     (λ size offset v. write-by s (λ x y z t. Sets s t (made v x) false) size offset v
     (sets-if _ _ _ s _ (limitOf su mask v) (allocSucceeds su mask ConfigLimit v) refl refl
-    (λ d. let ok = done-pair (su .nr) (su .na) (badMask mask) v ConfigLimit d in (ok .rcid-low, ok .at-low)))
+    (λ d. let ok = done-pair Capacity (su .nr) (su .na) (badMask mask) v ConfigLimit d tt in (ok .rcid-low, ok .at-low)))
     (none refl refl) (none refl refl) (none refl refl))
     (λ s′ k. none (k .setup) (ap (λ (a : Allocation). a .masks) (k .alloc)))
 

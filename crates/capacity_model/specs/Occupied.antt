@@ -44,7 +44,11 @@ pub record Tells (word n : ℕ) : Type 0 where
   pub count : get reg.capacityCtr word ≡ n
 
 -- after that write and the calls between, the counter tells the units that the MCID owns
+abbrev pub TellsUnits : State → Ledger → Type 0
+TellsUnits s l =
+    (size v mcid : ℕ) (between : List Call) → Since s l size v mcid between
+    → (let t = after (stepOf controller) s (write size (8 * access.monCtl) v ∷ between) in
+    Tells (t .monitor .counters ‼ mcid) (unitsOf mcid (t .owners)))
+
 pub record Occupied : Type 0 where
-  pub always : Always controller (book .keeper) (λ s l. (size v mcid : ℕ) (between : List Call) → Since s l size v mcid between
-      → (let t = after (stepOf controller) s (write size (8 * access.monCtl) v ∷ between) in
-      Tells (t .monitor .counters ‼ mcid) (unitsOf mcid (t .owners))))
+  pub always : Always controller (book .keeper) TellsUnits
