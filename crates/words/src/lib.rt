@@ -137,6 +137,14 @@ pub fn put16(b: &mut [u8], i: usize, w: u64)
     }
 }
 
+pub fn put32(b: &mut [u8], i: usize, w: u64)
+    ensures { λ _. ⌜ now (b .exit) ≡ withWord 4 (now (b .entry)) i w ⌝ }
+{
+    if i < b.len() / 4 {
+        store32(b, i * 4, w);
+    }
+}
+
 pub fn put64(b: &mut [u8], i: usize, w: u64)
     ensures { λ _. ⌜ now (b .exit) ≡ withWord 8 (now (b .entry)) i w ⌝ }
 {

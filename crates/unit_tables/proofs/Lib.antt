@@ -1,0 +1,4 @@
+-- The laws that other crates cite.
+pub mod Steps
+pub mod Flushing
+pub mod Owners

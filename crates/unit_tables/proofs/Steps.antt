@@ -1,0 +1,51 @@
+-- The counts of emptied and filled units, from the words that are loaded and stored; counters stay well formed.
+use mathlib.Core.Path.{_≡_, refl, _∙_}
+use mathlib.Core.Bool.{Bool, true, false, cond, _&&_}
+use mathlib.Core.List.{List, [], _∷_}
+use Prim.Native.Nat.{ℕ}
+use lib.Dec.{lit<}
+use lib.ListN.{getD, set}
+use Rattle.fields.specs.Layout.{get}
+use Rattle.fields.specs.View.{InRange}
+use Rattle.fields.specs.Registers as reg
+use Rattle.tables.proofs.Tests.{cases}
+use Rattle.tables.proofs.Laws.{every-stored}
+use Rattle.monitor.specs.Occupancy.{countsBlock, filled, evicted}
+use Rattle.monitor.proofs.Occupancy.{CounterOk, evicted-ok}
+use Rattle.monitor.proofs.Steps.{counted-at}
+use Rattle.units.specs.Owners.{isOwned}
+use Rattle.units.specs.Counts.{noted, emptied}
+use Rattle.unit_tables.specs.View.{Identifiers, CountersOk}
+
+pub cond-and : {A : Type 0} (a b : Bool) (x y : A) → cond (a && b) x y ≡ cond a (cond b x y) y
+cond-and true b x y = refl
+cond-and false b x y = refl
+
+pub owner-fits : (rcid mcid at : ℕ) → Identifiers rcid mcid at → InRange reg.owner (1 ∷ at ∷ mcid ∷ rcid ∷ [])
+owner-fits rcid mcid at h = (lit< tt, (h .at-low, (h .mcid-low, (h .rcid-low, tt))))
+
+module _ (counters events new : List ℕ) (i counter setting left : ℕ) (c-is : counter ≡ getD counters i 0) (s-is : setting ≡ getD events i 0) (stored : new ≡ set counters i left) where
+  pub emptied-at : (owner : ℕ) → i ≡ get reg.ownerMcid owner → left ≡ cond (isOwned owner && countsBlock setting (get reg.ownerAt owner)) (evicted counter) counter
+      → new ≡ emptied 0 events evicted counters owner
+  unfolding emptied noted
+  emptied-at owner e l =
+      counted-at (λ s. isOwned owner && countsBlock s (get reg.ownerAt owner)) evicted counters events new i counter setting left c-is s-is l stored
+      ∙ cond-and (isOwned owner) (countsBlock (getD events i 0) (get reg.ownerAt owner)) (set counters i (evicted (getD counters i 0))) counters
+      ∙ rw e refl
+
+  pub filled-at : (w at : ℕ) → left ≡ cond (countsBlock setting at) (filled w counter) counter → new ≡ noted 0 events (filled w) counters i at
+  unfolding noted
+  filled-at w at l = counted-at (λ s. countsBlock s at) (filled w) counters events new i counter setting left c-is s-is l stored
+
+pub emptied-ok : (w : ℕ) (counters events : List ℕ) (owner : ℕ) → CountersOk w counters → CountersOk w (emptied 0 events evicted counters owner)
+unfolding emptied noted
+emptied-ok w counters events owner h =
+    let i = get reg.ownerMcid owner in
+    let counts = countsBlock (getD events i 0) (get reg.ownerAt owner) in
+    let new = set counters i (evicted (getD counters i 0)) in
+    cases (λ b. CountersOk w (cond b (cond counts new counters) counters)) (isOwned owner)
+    (λ y. record {
+      w-high = h .w-high;
+      all = every-stored (CounterOk w) counts counters i (evicted (getD counters i 0)) (h .all) (λ t. evicted-ok w (getD counters i 0) (h .w-high) (h .all i));
+    })
+    (λ n. h)
