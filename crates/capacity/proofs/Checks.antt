@@ -20,29 +20,31 @@ use Rattle.access.proofs.Checks.{first-append, first-other, first-passes, none-
 use Rattle.allocation.specs.Allocation.{controlOk}
 use Rattle.monitor.specs.Monitor.{monWord, statusOf, counterOk, monitorOk}
 use Rattle.monitor.proofs.Forms.{named-all}
+use Rattle.monitor.proofs.Counters.{counter-zero}
+use Rattle.unit_tables.specs.View.{CountersOk}
 use Rattle.capacity_model.specs.Rules.{Setup, setupOk, maskOf}
 use Rattle.capacity_model.specs.View.{Sized}
-use Rattle.capacity_model.specs.Model.{State, allocationOk, wellFormed, lengthsOk, setupChecks, stateChecks, blockChecks}
+use Rattle.capacity_model.specs.Model.{State, allocationOk, wellFormed, lengthsOk, setupChecks, stateChecks}
 use Rattle.capacity_model.proofs.Setup.{ranges}
 use Rattle.capacity_model.proofs.Steps.{Passing}
-use Rattle.capacity.specs.Checked.{Passes, Named, TablesTested}
+use Rattle.capacity.specs.Checked.{Passes, TablesTested}
 
 -- ---- checks 1 and 2
 
-pub sized : (su : Setup) (s : State) → T (lengthsOk su s) → Sized su (s .alloc .masks) (s .monitor .counters) (s .monitor .events)
+pub sized : (su : Setup) (s : State) → T (lengthsOk su s) → Sized su (s .alloc .masks) (s .monitor .counters) (s .monitor .events) (s .owners)
 unfolding lengthsOk
-sized su s t = search (eqb→eq, and-l, and-r) depth 9
+sized su s t = search (eqb→eq, and-l, and-r) depth 11
 
-pub setup-passes : (su : Setup) (s : State) → T (setupOk su) → Sized su (s .alloc .masks) (s .monitor .counters) (s .monitor .events) → 0 ≡ first (setupChecks su s) 0
+pub setup-passes : (su : Setup) (s : State) → T (setupOk su) → Sized su (s .alloc .masks) (s .monitor .counters) (s .monitor .events) (s .owners) → 0 ≡ first (setupChecks su s) 0
 unfolding access.setupChecks lengthsOk
-setup-passes su s t z = let l : T (lengthsOk su s) = search (eqb-in, and-in) depth 9 in rw (is-true (setupOk su) t, is-true (lengthsOk su s) l) refl
+setup-passes su s t z = let l : T (lengthsOk su s) = search (eqb-in, and-in) depth 11 in rw (is-true (setupOk su) t, is-true (lengthsOk su s) l) refl
 
 module _ (su : Setup) (s : State) (e : 0 ≡ first (setupChecks su s) 0) where
   pub setup-passed : T (setupOk su)
   unfolding access.setupChecks
   setup-passed = not-not (setupOk su) (none-holds 0 (setupChecks su s) 0 tt (sym e) .0 .0)
 
-  pub lengths-passed : Sized su (s .alloc .masks) (s .monitor .counters) (s .monitor .events)
+  pub lengths-passed : Sized su (s .alloc .masks) (s .monitor .counters) (s .monitor .events) (s .owners)
   unfolding access.setupChecks
   lengths-passed = sized su s (not-not (lengthsOk su s) (none-holds 0 (setupChecks su s) 0 tt (sym e) .0 .1 .0))
 
@@ -90,35 +92,20 @@ module _ (s : State) where
       let v = s .monitor .value in
       eq-eqb v (namedBits reg.capacityCounter v) (named-all reg.capacityCounter capacityCounter-kept v h)
 
-  pub well-formed-is : {m k e : Bool} → TablesTested (s .setup) (s .alloc .masks) (s .monitor .counters) (s .monitor .events) m k e → s .monitor .value < 2 ^ 64 → (a b c : Bool)
+  pub well-formed-is : {m k e o : Bool} → TablesTested (s .setup) (s .alloc .masks) (s .monitor .counters) (s .monitor .events) (s .owners) m k e o → s .monitor .value < 2 ^ 64 → (a b c : Bool)
       → a ≡ controlOk (s .setup .na) (s .alloc .ctl) → b ≡ eqb (s .alloc .mask) (maskOf (s .setup) (s .alloc .mask))
-      → c ≡ eqb (s .monitor .ctl) (monWord (s .setup .na) (s .monitor .ctl) 0 (statusOf (s .monitor .ctl))) → (a && b && m && (c && k && e)) ≡ wellFormed s
+      → c ≡ eqb (s .monitor .ctl) (monWord (s .setup .na) (s .monitor .ctl) 0 (statusOf (s .monitor .ctl))) → (a && b && m && (c && k && e) && o) ≡ wellFormed s
   unfolding wellFormed allocationOk monitorOk
   well-formed-is t h a b c ea eb ec =
       let z = t .sized in
-      rw (ea, eb, ec, t .masks-are, t .counters-are, t .events-are, z .masks-long, z .counters-long, z .events-long, value-test h, and-one) refl
+      rw (ea, eb, ec, t .masks-are, t .counters-are, t .events-are, t .owners-are, z .masks-long, z .counters-long, z .events-long, z .owners-long, value-test h, and-one) refl
 
--- ---- checks 7 and 8
+-- ---- every counter is well formed; that of an MCID that is not there reads 0
 
-pub named : (su : Setup) (rcid mcid block : ℕ) → 0 ≡ first (blockChecks su rcid mcid block) 0 → Named su rcid mcid block
-unfolding blockChecks
-named su rcid mcid block e =
-    let f = none-holds 0 (blockChecks su rcid mcid block) 0 tt (sym e) .0 in
-    record {
-      rcid-in = nleb→lt (su .nr) rcid (nor-l (leb (su .nr) rcid) (leb (su .nm) mcid) (f .0));
-      mcid-in = nleb→lt (su .nm) mcid (nor-r (leb (su .nr) rcid) (leb (su .nm) mcid) (f .0));
-      block-in = nleb→lt (su .ncblks) block (f .1 .0);
-    }
-
--- ---- a counter is below 2^W; that of an MCID that is not there reads 0
-
-pub counter-low : (s : State) → Passes s → (mcid : ℕ) → get reg.capacityCtr (getD (s .monitor .counters) mcid 0) < 2 ^ s .setup .w
-unfolding wellFormed monitorOk counterOk
-counter-low s p mcid =
+pub counters-ok : (s : State) → Passes s → CountersOk (s .setup .w) (s .monitor .counters)
+unfolding wellFormed monitorOk
+counters-ok s p =
     let t = p .wellformed in
     let ok : ℕ → Bool = λ x. counterOk reg.capacityCounter reg.capacityCtr (s .setup .w) x in
-    let all : T (allBelow (s .setup .nm) (λ i. ok (getD (s .monitor .counters) i 0))) = search (and-l, and-r) depth 8 in
-    let word = getD (s .monitor .counters) mcid 0 in
-    let none : T (ok 0) = and-in (ltb (get reg.capacityCtr 0) (2 ^ s .setup .w)) (eqb 0 (namedBits reg.capacityCounter 0)) (lt→ltb (get reg.capacityCtr 0) (2 ^ s .setup .w) (omega (arith, pow-pos (s .setup .w)))) tt in
-    ltb→lt (get reg.capacityCtr word) (2 ^ s .setup .w)
-    (and-l (ltb (get reg.capacityCtr word) (2 ^ s .setup .w)) (eqb word (namedBits reg.capacityCounter word)) (every-below ok (s .monitor .counters) (s .setup .nm) (p .sized .counters-long) none all mcid))
+    let all : T (allBelow (s .setup .nm) (λ i. ok (getD (s .monitor .counters) i 0))) = search (and-l, and-r) depth 10 in
+    record { w-high = p .ranges .w-high; all = every-below ok (s .monitor .counters) (s .setup .nm) (p .sized .counters-long) (counter-zero reg.capacityCounter reg.capacityCtr (s .setup .w)) all }

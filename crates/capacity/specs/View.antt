@@ -16,23 +16,24 @@ use Rattle.capacity.specs.declared.Record.{Record}
 use Rattle.capacity.specs.declared.Filling.{Filling}
 use Rattle.capacity.specs.declared.Filling.the-variants as filling
 
--- the record with the masks, counters and counter settings
-abbrev pub state : Record → List ℕ → List ℕ → List ℕ → State
-state r masks counters events = record {
+-- the record with the masks, counters, counter settings and owners
+abbrev pub state : Record → List ℕ → List ℕ → List ℕ → List ℕ → State
+state r masks counters events owners = record {
   setup = setupOf (r .setup);
   alloc = allocation (r .«alloc_ctl») (r .«block_mask») masks;
   monitor = record { ctl = r .«mon_ctl»; value = r .«mon_ctr_val»; counters = counters; events = events };
+  owners = owners;
 }
 
 -- the state when a call is made and when it returns, over the places that a contract names; a table lent as & stays
 abbrev pub Slice : Type 0
 Slice = Both (RefT (List ℕ)) (RefT (List ℕ))
 
-abbrev pub before : Record → Slice → Slice → Slice → State
-before r masks counters events = state r (masks .entry .now) (counters .entry .now) (events .entry .now)
+abbrev pub before : Record → Slice → Slice → Slice → Slice → State
+before r masks counters events owners = state r (masks .entry .now) (counters .entry .now) (events .entry .now) (owners .entry .now)
 
-abbrev pub after : Record → Slice → Slice → Slice → State
-after r masks counters events = state r (masks .exit .now) (counters .exit .now) (events .exit .now)
+abbrev pub after : Record → Slice → Slice → Slice → Slice → State
+after r masks counters events owners = state r (masks .exit .now) (counters .exit .now) (events .exit .now) (owners .exit .now)
 
 abbrev pub outcome : Answer → State → Outcome
 outcome a s = record { answer = a; state = s }

@@ -1,5 +1,5 @@
 // The capacity controller: its record, and the calls on it.
-mod blocks;
+mod cache;
 mod check;
 mod registers;
 mod reset;
@@ -40,28 +40,17 @@ pub struct Filled {
     pub filling: Filling,
 }
 
-// The record, and the words of the pair and of the MCID that a written value names.
+// The record, the words of the pair and of the MCID that a written value names, and whether the units of the RCID that it names are flushed.
 pub struct WriteWords {
     pub record: Record,
     pub mask: u64,
     pub counter: u64,
     pub setting: u16,
+    pub flushes: bool,
 }
 
 // What a write answers and leaves.
 pub struct Wrote {
     pub ack: Ack,
     pub left: WriteWords,
-}
-
-// What a fill answers, and the counter of its MCID.
-pub struct FillWords {
-    pub filling: Filling,
-    pub counter: u64,
-}
-
-// The same for an eviction.
-pub struct EvictWords {
-    pub ack: Ack,
-    pub counter: u64,
 }

@@ -4,6 +4,7 @@ use crate::Read;
 use crate::Record;
 use crate::WriteWords;
 use crate::Wrote;
+use crate::cache::flush_if;
 use access::Ack;
 use access::Reading;
 use access::Verdict;
@@ -14,6 +15,7 @@ use access::write_verdict;
 use capacity_masks::alloc_after;
 use capacity_masks::mask_of;
 use capacity_masks::named_pair;
+use capacity_masks::named_rcid;
 use fields::CapacityCapabilities;
 use monitor::capacity_status;
 use monitor::mon_after;
@@ -35,7 +37,7 @@ ghost use Rattle.capacity.specs.View.{state, before, after, outcome, ack
 ghost use Rattle.capacity.specs.Checked.{Passed, WordsIn, wrote};
 
 impl Record {
-    // What capabilities reads; FRCID is 0.
+    // What capabilities reads; FRCID is 1.
     fn capabilities(self) -> u64
         requires { ⌜ Ranges (setupOf (self .setup)) ⌝ }
         ensures { λ r. ⌜ r ≡ capabilities (setupOf (self .setup)) ⌝ }
@@ -43,14 +45,14 @@ impl Record {
         CapacityCapabilities {
             ver: 1,
             ncblks: self.setup.ncblks,
-            frcid: 0,
+            frcid: 1,
         }.pack()
     }
 
     // The register that an offset lies in.
     fn register(self, n: u64) -> u64
         requires { ⌜ Ranges (setupOf (self .setup)) ⌝ }
-        ensures { λ r. ⌜ ((ms ns es : List ℕ) → r ≡ register (state self ms ns es) n) ⌝ }
+        ensures { λ r. ⌜ ((ms ns es os : List ℕ) → r ≡ register (state self ms ns es os) n) ⌝ }
     {
         match n {
             0 => self.capabilities(),
@@ -64,7 +66,7 @@ impl Record {
     // A read in a state that passes checks 1 to 3; it needs no word of a table.
     pub fn reading(self, size: u64, offset: u64) -> Reading
         requires { ⌜ Ranges (setupOf (self .setup)) ⌝ }
-        ensures { λ r. ⌜ ((ms ns es : List ℕ) → Passed (state self ms ns es) → outcome (readingOf r) (state self ms ns es) ≡ step (state self ms ns es) (read size offset)) ⌝ }
+        ensures { λ r. ⌜ ((ms ns es os : List ℕ) → Passed (state self ms ns es os) → outcome (readingOf r) (state self ms ns es os) ≡ step (state self ms ns es os) (read size offset)) ⌝ }
     {
         match read_verdict(size, offset) {
             Verdict::Failed(why) => Reading::Refused(why),
@@ -77,12 +79,13 @@ impl Record {
         masks: &[u64],
         counters: &[u64],
         events: &[u16],
+        owners: &[u32],
         size: u64,
         offset: u64,
     ) -> Read
-        ensures { λ r. ⌜ outcome (readingOf (r .reading)) (after (r .«record») masks counters events) ≡ step (before self masks counters events) (read size offset) ⌝ }
+        ensures { λ r. ⌜ outcome (readingOf (r .reading)) (after (r .«record») masks counters events owners) ≡ step (before self masks counters events owners) (read size offset) ⌝ }
     {
-        match self.check(masks, counters, events) {
+        match self.check(masks, counters, events, owners) {
             Verdict::Failed(why) => Read {
                 record: self,
                 reading: Reading::Refused(why),
@@ -105,15 +108,18 @@ impl Record {
         value: u64,
     ) -> WriteWords
         requires { ⌜ Ranges (setupOf (self .setup)) × (first (writeChecks registersEnd size offset value) 0 ≡ 0) ⌝ }
-        ensures { λ r. ⌜ ((ms ns es : List ℕ) → WordsIn (state self ms ns es) value mask counter setting → wrote (setupOf (self .setup)) r ms ns es value ≡ writeAt (state self ms ns es) size offset value) ⌝ }
+        ensures { λ r. ⌜ ((ms ns es os : List ℕ) → WordsIn (state self ms ns es os) value mask counter setting
+            → wrote (setupOf (self .setup)) r ms ns es os value ≡ writeAt (state self ms ns es os) size offset value) ⌝ }
     {
         let setup = self.setup;
+        let mut flushes = false;
         match offset {
             24 => {
                 let done = alloc_after(setup, self.block_mask, mask, value);
                 self.alloc_ctl = done.ctl;
                 self.block_mask = done.operand;
                 mask = done.mask;
+                flushes = done.flushes;
             }
             32 | 36 => {
                 let word = replaced(size, offset, self.block_mask, value);
@@ -134,6 +140,7 @@ impl Record {
             mask,
             counter,
             setting,
+            flushes,
         }
     }
 
@@ -148,8 +155,8 @@ impl Record {
         value: u64,
     ) -> Wrote
         requires { ⌜ Ranges (setupOf (self .setup)) ⌝ }
-        ensures { λ r. ⌜ ((ms ns es : List ℕ) → Passed (state self ms ns es) → WordsIn (state self ms ns es) value mask counter setting
-            → outcome (ackOf (r .ack)) (wrote (setupOf (self .setup)) (r .left) ms ns es value) ≡ step (state self ms ns es) (write size offset value)) ⌝ }
+        ensures { λ r. ⌜ ((ms ns es os : List ℕ) → Passed (state self ms ns es os) → WordsIn (state self ms ns es os) value mask counter setting
+            → outcome (ackOf (r .ack)) (wrote (setupOf (self .setup)) (r .left) ms ns es os value) ≡ step (state self ms ns es os) (write size offset value)) ⌝ }
     {
         match write_verdict(size, offset, value) {
             Verdict::Failed(why) => Wrote {
@@ -159,6 +166,7 @@ impl Record {
                     mask,
                     counter,
                     setting,
+                    flushes: false,
                 },
             },
             Verdict::Passed => Wrote {
@@ -173,13 +181,14 @@ impl Record {
         masks: &mut [u64],
         counters: &mut [u64],
         events: &mut [u16],
+        owners: &mut [u32],
         size: u64,
         offset: u64,
         value: u64,
     ) -> Acked
-        ensures { λ r. ⌜ outcome (ackOf (r .ack)) (after (r .«record») masks counters events) ≡ step (before self masks counters events) (write size offset value) ⌝ }
+        ensures { λ r. ⌜ outcome (ackOf (r .ack)) (after (r .«record») masks counters events owners) ≡ step (before self masks counters events owners) (write size offset value) ⌝ }
     {
-        match self.check(masks, counters, events) {
+        match self.check(masks, counters, events, owners) {
             Verdict::Failed(why) => Acked {
                 record: self,
                 ack: Ack::Refused(why),
@@ -201,6 +210,7 @@ impl Record {
                 put64(masks, p, left.mask);
                 put64(counters, i, left.counter);
                 put16(events, i, left.setting);
+                flush_if(left.flushes, owners, counters, events, named_rcid(value));
                 Acked { record, ack }
             }
         }

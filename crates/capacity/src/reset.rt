@@ -6,6 +6,7 @@ use access::Verdict;
 use capacity_masks::Setup;
 use capacity_masks::all_blocks;
 use tables::fill16;
+use tables::fill32;
 use tables::fill64;
 ghost use mathlib.Core.Path.{_≡_};
 ghost use lib.ListN.{length};
@@ -32,11 +33,12 @@ impl Record {
         masks: &mut [u64],
         counters: &mut [u64],
         events: &mut [u16],
+        owners: &mut [u32],
         setup: Setup,
     ) -> Acked
-        ensures { λ r. ⌜ outcome (ackOf (r .ack)) (after (r .«record») masks counters events) ≡ step (before self masks counters events) (reset (setupOf setup)) ⌝ }
+        ensures { λ r. ⌜ outcome (ackOf (r .ack)) (after (r .«record») masks counters events owners) ≡ step (before self masks counters events owners) (reset (setupOf setup)) ⌝ }
     {
-        match self.check_setup(setup, masks, counters, events) {
+        match self.check_setup(setup, masks, counters, events, owners) {
             Verdict::Failed(why) => Acked {
                 record: self,
                 ack: Ack::Refused(why),
@@ -45,6 +47,7 @@ impl Record {
                 reset_masks(setup, masks);
                 fill64(counters, 0);
                 fill16(events, 0);
+                fill32(owners, 0);
                 Acked {
                     record: Record {
                         setup,

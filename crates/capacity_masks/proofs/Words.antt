@@ -3,10 +3,10 @@ use mathlib.Core.Path.{_≡_, refl, sym, ap, _∙_}
 use mathlib.Core.Bool.{cond}
 use mathlib.Core.List.{List, [], _∷_, _++_}
 use Prim.Native.Nat.{ℕ, _-_, _*_, _%_, _^_, _≤_, _<_}
-use native.Mathlib.Nat.{mod-eq-of-lt, mod-lt}
+use native.Mathlib.Nat.{mod-eq-of-lt, mod-lt, lt-of-lt-of-le, div-lt-iff-lt-mul}
 use native.Mathlib.Omega.{arith}
 use lib.Dec.{leb, ltb, eqb, leb→le, le→leb, ltb→lt, lt→ltb, eqb→eq}
-use lib.ListN.{getD, set, drop, replicate}
+use lib.ListN.{drop, replicate}
 use lib.Pow.{pow-pos}
 use Rattle.tables.specs.Below.{allBelow}
 use Rattle.tables.specs.View.{unionBelow, Small}
@@ -16,14 +16,17 @@ use Rattle.tables.proofs.Union.{low-test, union-low}
 use Rattle.fields.specs.Layout.{pack}
 use Rattle.fields.specs.Registers.{allocCtl}
 use Rattle.fields.specs.declared.AllocCtl.{AllocCtl}
-use Rattle.access.specs.Pairs.{pair, wordAt}
+use Rattle.access.specs.Pairs.{wordAt}
 use Rattle.access.proofs.Pairs.{rows}
 use Rattle.allocation.specs.Allocation as allocation
 use Rattle.allocation.specs.View.{AllocFields, EffectOf}
 use Rattle.allocation.specs.declared.Effect.{Effect}
+use Rattle.codes.specs.declared.Resource.the-variants.{Capacity}
 use Rattle.monitor.proofs.Steps.{put-back}
-use Rattle.capacity_model.specs.Rules.{Setup, pairs, maskOf, allBlocks, resetMasks, badMask}
+use Rattle.capacity_model.specs.Rules.{Setup, pairs, unitCount, blockOf, maskOf, allBlocks, resetMasks, badMask}
+use Rattle.capacity_model.specs.View.{Ranges}
 use Rattle.capacity_model.specs.Model.{writeAlloc}
+use Rattle.capacity_masks.specs.Words.{AllocAfter}
 use Rattle.capacity_masks.specs.declared.AllocWords.{AllocWords}
 
 -- at most all ones, or below the next power of 2
@@ -49,13 +52,16 @@ masks-test su n f =
     let k = su .ncblks in
     ones-test k (unionBelow n f) ∙ sym (low-test k (unionBelow n f)) ∙ union-low k n f ∙ all-same n _ _ (λ i l. held-test su (f i))
 
--- the operation of alloc_ctl on the table, from what each step gives of the mask of the pair that it names
-pub alloc-words : (su : Setup) (v operand mask st : ℕ) (effect : Effect) (f : AllocCtl) (x : AllocWords) (masks : List ℕ) → AllocFields (su .na) v f → Small (allocation.operationStatus (su .nr) (su .na) (eqb operand 0) v) 5 st
-    → x .ctl ≡ pack allocCtl (0 ∷ st ∷ f .rcid ∷ f .at ∷ f .op ∷ []) → EffectOf (f .op) st effect → x .operand ≡ cond (effect .reads) mask operand → x .mask ≡ cond (effect .sets) operand mask
-    → mask ≡ getD masks (pair (su .na) (allocation.rcidOf v) (allocation.atOf (su .na) v)) 0
-    → record { ctl = x .ctl; mask = x .operand; masks = set masks (pair (su .na) (allocation.rcidOf v) (allocation.atOf (su .na) v)) (x .mask) } ≡ writeAlloc su operand masks v
-unfolding writeAlloc allocation.allocWord badMask allocation.operandAfter allocation.tableAfter allocation.succeeds allocation.performs wordAt
-alloc-words su v operand mask st effect f x masks g s c d o m e = rw (m, o, d .sets-is, d .reads-is, c, e, s .is, g .op-is, g .at-is, g .rcid-is, put-back) refl
+-- the operation of alloc_ctl, from what each step gives of the mask of the pair that it names
+module _ (su : Setup) (v operand mask st : ℕ) (effect : Effect) (f : AllocCtl) (x : AllocWords) (g : AllocFields (su .na) v f)
+    (s : Small (allocation.operationStatus Capacity (su .nr) (su .na) (eqb operand 0) v) 5 st) (d : EffectOf Capacity (f .op) st effect) where
+  pub alloc-words : x .ctl ≡ pack allocCtl (0 ∷ st ∷ f .rcid ∷ f .at ∷ f .op ∷ []) → x .operand ≡ cond (effect .reads) mask operand → x .mask ≡ cond (effect .sets) operand mask
+      → x .flushes ≡ effect .flushes → AllocAfter su operand mask v x
+  unfolding writeAlloc allocation.allocWord badMask allocation.operandAfter allocation.tableAfter allocation.succeeds allocation.performs wordAt
+  alloc-words c o m k = record {
+    words = λ masks e. rw (m, o, d .sets-is, d .reads-is, c, e, s .is, g .op-is, g .at-is, g .rcid-is, put-back) refl;
+    flushes-is = rw (k, d .flushes-is, s .is, g .op-is) refl;
+  }
 
 -- 0 everywhere, then every block for RCID 0
 pub reset-words : (su : Setup) → 1 ≤ su .nr → replicate (su .na) (allBlocks su) ++ drop (su .na) (replicate (pairs su) 0) ≡ resetMasks su
@@ -69,3 +75,8 @@ reset-words su h =
 pub first-inside : (su : Setup) → 1 ≤ su .nr → su .na ≤ pairs su
 unfolding pairs
 first-inside su h = omega (arith, rows (su .nr) (su .na) h)
+
+-- the block of a unit is one of NCBLKS
+pub block-in : (su : Setup) (unit : ℕ) → Ranges su → unit < unitCount su → blockOf su unit < 64
+unfolding blockOf unitCount
+block-in su unit r l = lt-of-lt-of-le (div-lt-iff-lt-mul (r .units-low) .1 l) (r .ncblks-high)

@@ -6,7 +6,7 @@ use Rattle.capacity_model.specs.Model.{Allocation}
 use Rattle.capacity_masks.specs.declared.setup.Setup.{Setup}
 
 abbrev pub setupOf : Setup → rules.Setup
-setupOf s = record { ncblks = s .ncblks; nr = s .nr; na = s .na; nm = s .nm; w = s .w }
+setupOf s = record { ncblks = s .ncblks; nr = s .nr; na = s .na; nm = s .nm; w = s .w; units = s .units }
 
 -- alloc_ctl, block_mask and the masks
 abbrev pub allocation : ℕ → ℕ → List ℕ → Allocation

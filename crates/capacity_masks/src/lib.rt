@@ -6,6 +6,8 @@ use allocation::alloc_status;
 use allocation::alloc_word;
 use allocation::effect_of;
 use allocation::held_fields;
+use codes::Resource;
+use fields::AllocCtl;
 use fields::ones;
 pub use setup::Setup;
 use tables::pick;
@@ -13,7 +15,7 @@ use tables::union64;
 ghost use mathlib.Core.Path.{_≡_};
 ghost use mathlib.Core.List.{List};
 ghost use Prim.Native.Nat.{ℕ, _<_};
-ghost use lib.ListN.{length, getD, set};
+ghost use lib.ListN.{length, getD};
 ghost use lib.Dec.{eqb};
 ghost use Rattle.tables.specs.Below.{allBelow};
 ghost use Rattle.tables.specs.View.{unionBelow};
@@ -21,8 +23,8 @@ ghost use Rattle.access.specs.Pairs.{pair};
 ghost use Rattle.allocation.specs.Allocation.{rcidOf, atOf};
 ghost use Rattle.capacity_model.specs.Rules.{maskOf, allBlocks, hasBlock};
 ghost use Rattle.capacity_model.specs.View.{Ranges};
-ghost use Rattle.capacity_model.specs.Model.{writeAlloc};
-ghost use Rattle.capacity_masks.specs.View.{setupOf, allocation};
+ghost use Rattle.capacity_masks.specs.View.{setupOf};
+ghost use Rattle.capacity_masks.specs.Words.{AllocAfter};
 
 // Every block.
 pub fn all_blocks(setup: Setup) -> u64
@@ -73,25 +75,33 @@ pub fn named_pair(setup: Setup, v: u64) -> usize
     place(setup.na, f.rcid, f.at)
 }
 
-// alloc_ctl, block_mask, and the mask of one pair.
+// The RCID that a value written to alloc_ctl names.
+pub fn named_rcid(v: u64) -> u64
+    ensures { λ r. ⌜ r ≡ rcidOf v ⌝ }
+{
+    AllocCtl::unpack(v).rcid
+}
+
+// alloc_ctl, block_mask, the mask of one pair, and whether the operation flushes an RCID.
 pub struct AllocWords {
     pub ctl: u64,
     pub operand: u64,
     pub mask: u64,
+    pub flushes: bool,
 }
 
 // The write of v to alloc_ctl where block_mask is `operand`: stores the fields and performs the operation, on the mask of the pair that v names.
 pub fn alloc_after(setup: Setup, operand: u64, mask: u64, v: u64) -> AllocWords
     requires { ⌜ Ranges (setupOf setup) ⌝ }
-    ensures { λ r. ⌜ ((masks : List ℕ) → mask ≡ getD masks (pair (setup .na) (rcidOf v) (atOf (setup .na) v)) 0
-        → allocation (r .ctl) (r .operand) (set masks (pair (setup .na) (rcidOf v) (atOf (setup .na) v)) (r .mask)) ≡ writeAlloc (setupOf setup) operand masks v) ⌝ }
+    ensures { λ r. ⌜ AllocAfter (setupOf setup) operand mask v r ⌝ }
 {
     let f = held_fields(setup.na, v);
-    let status = alloc_status(setup.nr, setup.na, operand == 0, v);
-    let effect = effect_of(f.op, status);
+    let status = alloc_status(Resource::Capacity, setup.nr, setup.na, operand == 0, v);
+    let effect = effect_of(Resource::Capacity, f.op, status);
     AllocWords {
         ctl: alloc_word(f, status),
         operand: pick(effect.reads, mask, operand),
         mask: pick(effect.sets, operand, mask),
+        flushes: effect.flushes,
     }
 }

@@ -1,4 +1,5 @@
 -- `capacity_masks::alloc_after` meets its contract.
+use mathlib.Core.Path.{refl}
 use borrow.Author.Needs.{needs}
 use Rattle.capacity_masks.specs.View.{setupOf}
 use Rattle.capacity_masks.proofs.Words.{alloc-words}
@@ -7,12 +8,11 @@ use Rattle.capacity_masks.proofs.alloc_after.Tie as tie
 
 returns : tie.Need-returns
 returns c =
-    λ masks e.
     let word = c .before .before in
     let status = word .before .before in
     let f = status .before in
-    alloc-words (setupOf (f .before .args .setup)) _ _ _ _ _ _ _ masks (f .held-fields .ensures) (status .alloc-status .ensures) (word .alloc-word .ensures) (word .before .effect-of .ensures)
-    (c .before .pick .ensures) (c .pick2 .ensures) e
+    alloc-words (setupOf (f .before .args .setup)) _ _ _ _ _ _ _ (f .held-fields .ensures) (status .alloc-status .ensures) (word .before .effect-of .ensures) (word .alloc-word .ensures)
+    (c .before .pick .ensures) (c .pick2 .ensures) refl
 
 pub alloc-after-spec : {M : Type 1} → statement M
 alloc-after-spec =

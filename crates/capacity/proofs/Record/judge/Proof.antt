@@ -7,9 +7,9 @@ use Rattle.capacity.proofs.Record.judge.Tie as tie
 
 returns : tie.Need-returns
 returns c =
-    λ ms ns es t.
+    λ ms ns es os t.
     let s = c .before .before .before .before .before in
-    well-formed-is (state (s .args .self) ms ns es) t (search needs) _ _ _ (c .before .before .before .control-ok .ensures) (rw (← c .before .before .mask-of .ensures)) (c .control-ok2 .ensures)
+    well-formed-is (state (s .args .self) ms ns es os) t (search needs) _ _ _ (c .before .before .before .control-ok .ensures) (rw (← c .before .before .mask-of .ensures)) (c .control-ok2 .ensures)
 
 pub judge-spec : {M : Type 1} → statement M
 judge-spec = tie.close (tie.spec (λ c κs. search needs) (λ c κs. search needs) (λ c κs. search needs) returns)

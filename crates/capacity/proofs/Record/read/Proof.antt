@@ -15,7 +15,7 @@ returns : tie.Need-returns
 returns c = call-failed _ (read _ _) tt (c .before .why .given .0 .0) (sym (ap verdictOf (c .before .why .given .1)) ∙ c .before .before .before .check .ensures)
 
 returns-2 : tie.Need-returns-2
-returns-2 c = c .reading .ensures _ _ _ (sym (ap verdictOf (c .before .enum-told .given .1)) ∙ c .before .before .before .check .ensures)
+returns-2 c = c .reading .ensures _ _ _ _ (sym (ap verdictOf (c .before .enum-told .given .1)) ∙ c .before .before .before .check .ensures)
 
 pub read-spec : {M : Type 1} → statement M
 read-spec = tie.close (tie.spec (λ c κs. search needs) (λ c. search needs) (λ c. search needs) reading-requires returns returns-2)

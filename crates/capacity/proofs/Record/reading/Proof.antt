@@ -13,15 +13,15 @@ use Rattle.capacity.proofs.Record.reading.Tie as tie
 returns : tie.Need-returns
 unfolding argumentChecks
 returns c =
-    λ ms ns es p.
-    call-refused (state (c .before .before .before .before .args .self) ms ns es) (read _ _) tt p (c .before .why .given .0 .0) (sym (ap verdictOf (c .before .why .given .1)) ∙ c .before .before .before .read-verdict .ensures)
+    λ ms ns es os p.
+    call-refused (state (c .before .before .before .before .args .self) ms ns es os) (read _ _) tt p (c .before .why .given .0 .0) (sym (ap verdictOf (c .before .why .given .1)) ∙ c .before .before .before .read-verdict .ensures)
 
 returns-2 : tie.Need-returns-2
 unfolding argumentChecks readAt perform
 returns-2 c =
-    λ ms ns es p.
-    call-done (state (c .before .before .before .before .before .args .self) ms ns es) (read _ _) tt p (sym (ap verdictOf (c .before .before .enum-told .given .1)) ∙ c .before .before .before .before .read-verdict .ensures) _
-    (rw (c .part .ensures, c .before .register .ensures ms ns es) refl)
+    λ ms ns es os p.
+    call-done (state (c .before .before .before .before .before .args .self) ms ns es os) (read _ _) tt p (sym (ap verdictOf (c .before .before .enum-told .given .1)) ∙ c .before .before .before .before .read-verdict .ensures) _
+    (rw (c .part .ensures, c .before .register .ensures ms ns es os) refl)
 
 pub reading-spec : {M : Type 1} → statement M
 reading-spec =

@@ -1,5 +1,6 @@
 -- `capacity::Record::reset` meets its contract.
 use mathlib.Core.Path.{sym, ap, _∙_}
+use mathlib.Core.List.{List}
 use Prim.Native.Nat.{ℕ}
 use lib.ListN.{replicate}
 use borrow.Author.Needs.{needs}
@@ -20,10 +21,15 @@ returns c = reset-refused _ _ (c .before .why .given .0 .0) (sym (ap verdictOf (
 
 returns-2 : tie.Need-returns-2
 returns-2 c =
-    let e = sym (ap verdictOf (c .before .before .before .before .before .before .before .before .before .before .before .before .enum-told .given .1)) ∙ c .before .before .before .before .before .before .before .before .before .before .before .before .before .before .check-setup .ensures in
+    let v = c .before .before .before .before .before .before .before .before .before .before .before .before .before .before .before .before in
+    let e = sym (ap verdictOf (v .enum-told .given .1)) ∙ v .before .before .check-setup .ensures in
     let z = lengths-passed _ _ e in
-    reset-performed _ _ e _ _ _ (c .before .before .before .before .before .before .before .before .before .before .reset-masks .ensures) (c .before .before .before .before .before .before .fill64 .ensures ∙ ap (λ (n : ℕ). replicate n 0) (z .counters-long))
-    (c .before .before .fill16 .ensures ∙ ap (λ (n : ℕ). replicate n 0) (z .events-long))
+    let zeros : ℕ → List ℕ = λ n. replicate n 0 in
+    reset-performed _ _ e _ _ _ _ (c .before .before .before .before .before .before .before .before .before .before .before .before .before .before .reset-masks .ensures) (c .before .before .before .before .before .before .before .before .before .before .fill64 .ensures ∙ ap zeros (z .counters-long)) (c .before .before .before .before .before .before .fill16 .ensures ∙ ap zeros (z .events-long))
+    (c .before .before .fill32 .ensures ∙ ap zeros (z .owners-long))
 
 pub reset-spec : {M : Type 1} → statement M
-reset-spec = tie.close (tie.spec (λ c κs. search needs) (λ c. search needs) (λ c. search needs) reset-masks-requires (λ c κs. search needs) (λ c κs. search needs) (λ c. search needs) (λ c. search needs) (λ c. search needs) returns (λ c. search needs) (λ c. search needs) (λ c. search needs) returns-2)
+reset-spec =
+    tie.close
+    (tie.spec (λ c κs. search needs) (λ c. search needs) (λ c. search needs) reset-masks-requires (λ c κs. search needs) (λ c κs. search needs) (λ c κs. search needs) (λ c. search needs) (λ c. search needs)
+    (λ c. search needs) (λ c. search needs) returns (λ c. search needs) (λ c. search needs) (λ c. search needs) (λ c. search needs) returns-2)

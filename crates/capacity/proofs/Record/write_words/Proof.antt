@@ -16,14 +16,14 @@ store-requires c κs = (c .before .before .before .pre, sym (sym (ap verdictOf (
 returns : tie.Need-returns
 unfolding argumentChecks
 returns c =
-    λ ms ns es p n.
-    write-refused (state (c .before .before .before .before .args .self) ms ns es) _ _ _ _ _ _ n p (c .before .why .given .0 .0) (sym (ap verdictOf (c .before .why .given .1)) ∙ c .before .before .before .write-verdict .ensures)
+    λ ms ns es os p n.
+    write-refused (state (c .before .before .before .before .args .self) ms ns es os) _ _ _ _ _ _ n p (c .before .why .given .0 .0) (sym (ap verdictOf (c .before .why .given .1)) ∙ c .before .before .before .write-verdict .ensures)
 
 returns-2 : tie.Need-returns-2
 unfolding argumentChecks perform
 returns-2 c =
-    λ ms ns es p n.
-    call-done (state (c .before .before .before .before .args .self) ms ns es) (write _ _ _) tt p (sym (ap verdictOf (c .before .enum-told .given .1)) ∙ c .before .before .before .write-verdict .ensures) _ (rw (c .store .ensures ms ns es n) refl)
+    λ ms ns es os p n.
+    call-done (state (c .before .before .before .before .args .self) ms ns es os) (write _ _ _) tt p (sym (ap verdictOf (c .before .enum-told .given .1)) ∙ c .before .before .before .write-verdict .ensures) _ (rw (c .store .ensures ms ns es os n) refl)
 
 pub write-words-spec : {M : Type 1} → statement M
 write-words-spec = tie.close (tie.spec (λ c κs. search needs) (λ c. search needs) (λ c. search needs) store-requires returns returns-2)
