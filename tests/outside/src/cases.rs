@@ -13,6 +13,7 @@ mod published;
 mod refusals;
 mod served;
 mod sweep;
+mod units;
 mod waiters;
 mod weights;
 
@@ -61,6 +62,7 @@ fn all(side: Side) -> Report {
     waiters::run(&mut report);
     served::run(&mut report);
     capacity::run(&mut report);
+    units::run(&mut report);
     codes::run(&mut report);
     forms::run(&mut report);
     refusals::run(&mut report);
