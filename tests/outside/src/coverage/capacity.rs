@@ -109,8 +109,8 @@ const BY_INVALID: &str = "counted by an INVALID counter";
 fn counter_change(old: u64, new: u64) -> &'static str {
     match (INVALID.get(old), INVALID.get(new)) {
         (1, _) => BY_INVALID,
-        (_, 1) if CTR.get(old) == 0 => BELOW_0,
-        (_, 1) => ABOVE_TOP,
+        (_, 1) if CTR.get(old) == CTR.get(new) && CTR.get(old) != 0 => ABOVE_TOP,
+        (_, 1) => BELOW_0,
         _ if new > old => UP,
         _ => DOWN,
     }

@@ -1,22 +1,28 @@
 //! Well-formed states made directly, with any number of units owned and counters up to their ends.
 
 use super::super::states::{any_alloc_ctl, any_counters, any_events, any_mon_ctl, loaded};
-use super::super::Random;
+use super::super::{Random, Step};
+use super::units::likely_flush;
 use super::{any_mask, damage, Steps};
 use crate::controller::Capacity;
 use crate::model::capacity::owners::owner_of;
 use crate::model::capacity::{all_blocks, Fill, Record, Setup, State, LAST_EVENT};
 use crate::model::{Checked, Sizes};
 
-/// Lends such a state, makes calls on it, and at times damages it by one word, an owner most of all.
+/// Lends such a state, makes calls on it, often a flush first, and at times damages it by one word, an
+/// owner most of all.
 pub fn any_loaded(random: &mut Random, setup: &Setup) -> Steps {
     let state = any_state(random, setup);
     let lengths = State::lengths(setup);
-    loaded::<Capacity>(random, &state, |random| match random.below(10) {
+    let mut steps = loaded::<Capacity>(random, &state, |random| match random.below(10) {
         0 => Some(damage::damage(random, &state, &lengths)),
         1..=3 => Some(damage::owner(random, &state)),
         _ => None,
-    })
+    });
+    if random.percent(50) {
+        steps.insert(1, Step::write(likely_flush(random, &state)));
+    }
+    steps
 }
 
 fn any_state(random: &mut Random, setup: &Setup) -> State {

@@ -93,15 +93,16 @@ fn many_fills(random: &mut Random, state: &State) -> Steps {
     (first..last).map(fill).collect()
 }
 
-fn likely_flush(random: &mut Random, state: &State) -> Write {
-    let (rcid, at) = (some_owner(random, state), random.below(8));
+/// A flush of an RCID that owns units, or of one with the same low bits that does not exist.
+pub fn likely_flush(random: &mut Random, state: &State) -> Write {
+    let (owner, at) = (some_owner(random, state), random.below(8));
+    let rcid = if random.percent(10) { owner + 256 * random.between(1, 15) } else { owner };
     common::alloc_ctl(random, FLUSH_RCID, rcid, at)
 }
 
 /// A flush of an RCID, and fills that it makes after it.
 fn flush_and_refill(random: &mut Random, state: &State) -> Steps {
-    let rcid = some_owner(random, state);
-    let at = random.below(8);
+    let (rcid, at) = (some_owner(random, state), random.below(8));
     let mut steps = vec![Step::write(common::alloc_ctl(random, FLUSH_RCID, rcid, at))];
     for _ in 0..random.between(1, 3) {
         let fill = Fill { rcid, ..likely_fill(random, state) };
