@@ -6,6 +6,7 @@ mod capacity;
 mod case;
 mod codes;
 mod devices;
+mod flush;
 mod forms;
 mod grants;
 mod paper;
@@ -63,6 +64,7 @@ fn all(side: Side) -> Report {
     served::run(&mut report);
     capacity::run(&mut report);
     units::run(&mut report);
+    flush::run(&mut report);
     codes::run(&mut report);
     forms::run(&mut report);
     refusals::run(&mut report);

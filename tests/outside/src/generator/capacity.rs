@@ -26,7 +26,8 @@ pub fn scenario(random: &mut Random, state: &State, lengths: &[usize], quiet: bo
     let damage = |random: &mut Random| damage::damage(random, state, lengths);
     let call = |random: &mut Random| any_call(random, &setup);
     // large tables may be read in parts: more of what only refusal 3 can show
-    if !quiet && setup.pairs() > 32 && random.percent(40) {
+    let large = setup.pairs() > 32 || setup.units() > 512;
+    if !quiet && large && random.percent(40) {
         return common::damaged_call(random, damage, call);
     }
     match random.below(if quiet { 87 } else { 100 }) {

@@ -19,7 +19,7 @@ pub fn any_loaded(random: &mut Random, setup: &Setup) -> Steps {
         1..=3 => Some(damage::owner(random, &state)),
         _ => None,
     });
-    if random.percent(50) {
+    if random.percent(70) {
         steps.insert(1, Step::write(likely_flush(random, &state)));
     }
     steps
@@ -40,10 +40,10 @@ fn any_state(random: &mut Random, setup: &Setup) -> State {
     State { record, masks, counters, events, owners: any_owners(random, setup) }
 }
 
-/// Units that none, some or all are owned, by one RCID, by a few or by any.
+/// Owners of no unit, of some or of all; they are one pair of RCID and MCID, a few or any.
 fn any_owners(random: &mut Random, setup: &Setup) -> Vec<u32> {
     let chance = random.pick(&[0, 10, 50, 100, 100]);
-    let (rcids, mcids) = random.pick(&[(1, 1), (3, 2), (256, 256)]);
+    let (rcids, mcids) = random.pick(&[(1, 1), (1, 3), (3, 2), (256, 256)]);
     let owner = |unit| {
         let rcid = random.below(setup.nr.min(rcids));
         let (mcid, at) = (random.below(setup.nm.min(mcids)), random.below(setup.na));
