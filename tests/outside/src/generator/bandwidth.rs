@@ -140,8 +140,7 @@ fn any_request(random: &mut Random, setup: &Setup, bytes: u32) -> Request {
         other => other % 2,
     };
     let (rcid, at) = common::any_pair(random, setup);
-    let both_unknown = rcid >= setup.nr && random.percent(25);
-    let mcid = if both_unknown { setup.nm } else { random.index(setup.nm) };
+    let mcid = common::any_mcid(random, setup, rcid);
     Request { rcid, mcid, at, kind, bytes }
 }
 

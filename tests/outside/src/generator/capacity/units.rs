@@ -19,8 +19,7 @@ pub fn any_unit(random: &mut Random, setup: &Setup) -> u64 {
 
 pub fn any_fill(random: &mut Random, setup: &Setup) -> Fill {
     let (rcid, at) = common::any_pair(random, setup);
-    let both_unknown = rcid >= setup.nr && random.percent(25);
-    let mcid = if both_unknown { setup.nm } else { random.index(setup.nm) };
+    let mcid = common::any_mcid(random, setup, rcid);
     Fill { rcid, mcid, at, unit: any_unit(random, setup) }
 }
 
