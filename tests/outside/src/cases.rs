@@ -6,6 +6,7 @@ mod capacity;
 mod case;
 mod codes;
 mod devices;
+mod flush;
 mod forms;
 mod grants;
 mod paper;
@@ -13,6 +14,7 @@ mod published;
 mod refusals;
 mod served;
 mod sweep;
+mod units;
 mod waiters;
 mod weights;
 
@@ -61,6 +63,8 @@ fn all(side: Side) -> Report {
     waiters::run(&mut report);
     served::run(&mut report);
     capacity::run(&mut report);
+    units::run(&mut report);
+    flush::run(&mut report);
     codes::run(&mut report);
     forms::run(&mut report);
     refusals::run(&mut report);

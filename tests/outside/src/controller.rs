@@ -112,7 +112,7 @@ macro_rules! controller {
             }
 
             fn required() -> Labels {
-                coverage::$module::required()
+                [coverage::$module::required(), coverage::lengths_required(Self::REGIONS)].concat()
             }
         }
     };
@@ -131,4 +131,8 @@ controller!(
         ("waiters", 8)
     ]
 );
-controller!(Capacity, capacity, [("record", 8), ("masks", 8), ("counters", 8), ("events", 2)]);
+controller!(
+    Capacity,
+    capacity,
+    [("record", 8), ("masks", 8), ("counters", 8), ("events", 2), ("owners", 4)]
+);

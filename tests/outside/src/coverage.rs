@@ -9,7 +9,7 @@ use std::collections::BTreeMap;
 use crate::controller::Controller;
 use crate::model::access::{ALLOC_CTL, MON_CTL};
 use crate::model::registers::{CONFIG_EVENT, EVT_ID, OP, STATUS};
-use crate::model::{Answer, Checked, Sizes};
+use crate::model::{Answer, Checked, CommonCall, Sizes};
 
 pub type Labels = Vec<String>;
 
@@ -65,7 +65,7 @@ pub fn labels<C: Controller>(
     let mut labels = vec![outcome(C::call_name(call), answer.refusal)];
     match answer.refusal {
         0 => labels.extend(C::accepted(before, call, answer, after)),
-        1 | 2 => {}
+        1 | 2 if call.as_reset().is_none() => {}
         3 => {
             labels.push(format!("refused 3 for {}", before.fault().unwrap_or("nothing")));
             labels.extend(C::fault(before));
@@ -88,8 +88,57 @@ fn unknown(call: &str, sizes: &impl Sizes, rcid: u64, mcid: u64) -> Option<Strin
     Some(format!("{call} refused for {which}"))
 }
 
-/// First and last code of each row of OP, in both control registers of both controllers.
+/// Those labels that hold.
+fn shown_of(shown: &[(&str, bool)]) -> Labels {
+    shown.iter().filter(|(_, is_shown)| *is_shown).map(|(label, _)| label.to_string()).collect()
+}
+
+/// "refused 3 for a waiter: no need alone": what is wrong with the first bad word of a table, if it is
+/// one thing, and whether the word is the last; `wrong` says of each word which faults it has.
+fn lone_fault<const N: usize>(name: &str, faults: [&str; N], wrong: &[[bool; N]]) -> Labels {
+    let place = match wrong.iter().position(|word| word.contains(&true)) {
+        Some(place) => place,
+        None => return Labels::new(),
+    };
+    let found: Vec<(&str, bool)> = faults.into_iter().zip(wrong[place]).collect();
+    match &shown_of(&found)[..] {
+        [alone] => vec![lone_label(name, alone, place + 1 == wrong.len())],
+        _ => Labels::new(),
+    }
+}
+
+fn lone_label(name: &str, fault: &str, last: bool) -> String {
+    let place = if last { ", the last word" } else { "" };
+    format!("refused 3 for {name}: {fault} alone{place}")
+}
+
+/// Each fault alone, in the last word and elsewhere.
+fn lone_required(name: &str, faults: &[&str]) -> Labels {
+    let both = |fault: &&str| [false, true].map(|last| lone_label(name, fault, last));
+    faults.iter().flat_map(both).collect()
+}
+
+/// What a call showed that was refused for the length of one slice.
+pub fn wrong_length(slice: &str, refusal: u64) -> String {
+    format!("refused {refusal} for the length of {slice}")
+}
+
+/// The length of each slice; that of the record, the first, gives 1.
+pub fn lengths_required(regions: &[(&str, usize)]) -> Labels {
+    let label = |(index, region): (usize, &(&str, usize))| {
+        wrong_length(region.0, if index == 0 { 1 } else { 2 })
+    };
+    regions.iter().enumerate().map(label).collect()
+}
+
+/// First and last code of each row of OP: in mon_ctl, and in the bandwidth controller's alloc_ctl.
 const OPERATIONS: [(u64, u64); 5] = [(0, 0), (1, 1), (2, 2), (3, 23), (24, 31)];
+
+/// First and last code of each row of OP in alloc_ctl and of EVT_ID, which differ by controller.
+struct Rows {
+    alloc: &'static [(u64, u64)],
+    events: &'static [(u64, u64)],
+}
 
 /// "mon_ctl OP 3 to 23".
 fn row(name: &str, first: u64, last: u64) -> String {
@@ -102,25 +151,25 @@ fn row_of(name: &str, rows: &[(u64, u64)], code: u64) -> Option<String> {
     found.map(|&(first, last)| row(name, first, last))
 }
 
-/// STATUS and row of the operation that an accepted write performed, if it did; `events` are the
-/// rows of EVT_ID, which CONFIG_EVENT goes by.
-fn operation(offset: u64, alloc_ctl: u64, mon_ctl: u64, events: &[(u64, u64)]) -> Labels {
-    let (name, word) = match offset {
-        ALLOC_CTL => ("alloc_ctl", alloc_ctl),
-        MON_CTL => ("mon_ctl", mon_ctl),
+/// STATUS and row of the operation that an accepted write performed, if it did, and the row of EVT_ID
+/// where CONFIG_EVENT goes by it.
+fn operation(offset: u64, alloc_ctl: u64, mon_ctl: u64, rows: &Rows) -> Labels {
+    let (name, word, operations) = match offset {
+        ALLOC_CTL => ("alloc_ctl", alloc_ctl, rows.alloc),
+        MON_CTL => ("mon_ctl", mon_ctl, &OPERATIONS[..]),
         _ => return Labels::new(),
     };
     let mut labels = vec![format!("{name} STATUS {}", STATUS.get(word))];
-    labels.extend(row_of(&format!("{name} OP"), &OPERATIONS, OP.get(word)));
+    labels.extend(row_of(&format!("{name} OP"), operations, OP.get(word)));
     if offset == MON_CTL && OP.get(word) == CONFIG_EVENT {
-        labels.extend(row_of("CONFIG_EVENT EVT_ID", events, EVT_ID.get(word)));
+        labels.extend(row_of("CONFIG_EVENT EVT_ID", rows.events, EVT_ID.get(word)));
     }
     labels
 }
 
 /// Labels that both controllers must show: each refusal of each call, each identifier that does not
 /// exist, each STATUS, and each row of OP and EVT_ID.
-fn common_required(refusals: &[(&str, &[u64])], events: &[(u64, u64)]) -> Vec<String> {
+fn common_required(refusals: &[(&str, &[u64])], rows: &Rows) -> Vec<String> {
     let mut labels = Vec::new();
     for (call, numbers) in refusals {
         labels.push(outcome(call, 0));
@@ -131,8 +180,14 @@ fn common_required(refusals: &[(&str, &[u64])], events: &[(u64, u64)]) -> Vec<St
     }
     for register in ["alloc_ctl", "mon_ctl"] {
         labels.extend((1..=5).map(|status| format!("{register} STATUS {status}")));
-        labels.extend(OPERATIONS.map(|(first, last)| row(&format!("{register} OP"), first, last)));
     }
-    labels.extend(events.iter().map(|&(first, last)| row("CONFIG_EVENT EVT_ID", first, last)));
+    let tables = [
+        ("alloc_ctl OP", rows.alloc),
+        ("mon_ctl OP", &OPERATIONS),
+        ("CONFIG_EVENT EVT_ID", rows.events),
+    ];
+    for (name, table) in tables {
+        labels.extend(table.iter().map(|&(first, last)| row(name, first, last)));
+    }
     labels
 }

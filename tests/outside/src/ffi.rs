@@ -32,7 +32,7 @@ macro_rules! bandwidth_function {
 
 macro_rules! capacity_function {
     ($($rest:tt)*) => {
-        c_function!([record, masks, counters, events] $($rest)*);
+        c_function!([record, masks, counters, events, owners] $($rest)*);
     };
 }
 
@@ -47,12 +47,12 @@ bandwidth_function!(cbqri_bandwidth_wait(; rcid: u64, mcid: u64, at: u64, kind: 
 bandwidth_function!(cbqri_bandwidth_need(; rcid: u64, need: &mut u64));
 bandwidth_function!(cbqri_bandwidth_end_window(;));
 
-capacity_function!(cbqri_capacity_reset(ncblks, nr, na, nm, w;));
+capacity_function!(cbqri_capacity_reset(ncblks, nr, na, nm, w, u;));
 capacity_function!(cbqri_capacity_read(; size: u64, offset: u64, value: &mut u64));
 capacity_function!(cbqri_capacity_write(; size: u64, offset: u64, value: u64));
-capacity_function!(cbqri_capacity_fill(; rcid: u64, mcid: u64, at: u64, block: u64,
+capacity_function!(cbqri_capacity_fill(; rcid: u64, mcid: u64, at: u64, unit: u64,
     allowed: &mut u64));
-capacity_function!(cbqri_capacity_evict(; rcid: u64, mcid: u64, at: u64, block: u64));
+capacity_function!(cbqri_capacity_evict(; unit: u64));
 
 /// The answer of a call that hands nothing back but its refusal.
 fn plain(refusal: u64) -> Answer {
@@ -102,14 +102,14 @@ pub fn bandwidth(memory: &mut Memory, call: &bandwidth::Call) -> Answer {
 pub fn capacity(memory: &mut Memory, call: &capacity::Call) -> Answer {
     use capacity::Call::*;
     match *call {
-        Reset(s) => plain(cbqri_capacity_reset(memory, s.ncblks, s.nr, s.na, s.nm, s.w)),
+        Reset(s) => plain(cbqri_capacity_reset(memory, s.ncblks, s.nr, s.na, s.nm, s.w, s.u)),
         Read { size, offset } => {
             with_value(|value| cbqri_capacity_read(memory, size, offset, value))
         }
         Write { size, offset, value } => plain(cbqri_capacity_write(memory, size, offset, value)),
-        Fill(e) => with_value(|allowed| {
-            cbqri_capacity_fill(memory, e.rcid, e.mcid, e.at, e.block, allowed)
-        }),
-        Evict(e) => plain(cbqri_capacity_evict(memory, e.rcid, e.mcid, e.at, e.block)),
+        Fill(f) => {
+            with_value(|allowed| cbqri_capacity_fill(memory, f.rcid, f.mcid, f.at, f.unit, allowed))
+        }
+        Evict { unit } => plain(cbqri_capacity_evict(memory, unit)),
     }
 }

@@ -5,10 +5,13 @@ pub mod bandwidth;
 pub mod capacity;
 mod common;
 pub mod listing;
+mod plan;
 mod random;
 pub mod setups;
+mod states;
 mod step;
 
 pub use common::{another_reset, opening};
+use plan::planned;
 pub use random::Random;
 pub use step::{Change, Kind, Step};

@@ -83,25 +83,27 @@ impl Image for capacity::State {
     fn bytes(&self) -> Vec<Vec<u8>> {
         let capacity::Record { setup: s, mon_ctl, mon_ctr_val, alloc_ctl, block_mask } =
             self.record;
-        let setup = [s.ncblks, s.nr, s.na, s.nm, s.w];
+        let setup = [s.ncblks, s.nr, s.na, s.nm, s.w, s.u];
         let rest = [mon_ctl, mon_ctr_val, alloc_ctl, block_mask];
         vec![
             Word::bytes(&[&setup[..], &rest[..]].concat()),
             Word::bytes(&self.masks),
             Word::bytes(&self.counters),
             Word::bytes(&self.events),
+            Word::bytes(&self.owners),
         ]
     }
 
     fn of(contents: &[Vec<u8>]) -> capacity::State {
-        let [ncblks, nr, na, nm, w, mon_ctl, mon_ctr_val, alloc_ctl, block_mask] =
+        let [ncblks, nr, na, nm, w, u, mon_ctl, mon_ctr_val, alloc_ctl, block_mask] =
             record_words(&contents[0]);
-        let setup = capacity::Setup { ncblks, nr, na, nm, w };
+        let setup = capacity::Setup { ncblks, nr, na, nm, w, u };
         capacity::State {
             record: capacity::Record { setup, mon_ctl, mon_ctr_val, alloc_ctl, block_mask },
             masks: Word::words(&contents[1]),
             counters: Word::words(&contents[2]),
             events: Word::words(&contents[3]),
+            owners: Word::words(&contents[4]),
         }
     }
 }

@@ -1,12 +1,12 @@
 //! One list of calls, each made on the model and through the C interface, and compared.
 
 use crate::controller::Controller;
-use crate::coverage::{labels, Coverage};
+use crate::coverage::{labels, wrong_length, Coverage};
 use crate::generator::{Change, Step};
 use crate::image::Image;
 use crate::ledger::{follow, Ledger};
 use crate::memory::Memory;
-use crate::model::{Answer, Performs};
+use crate::model::{Answer, CommonCall, Performs};
 
 pub struct Session<C: Controller> {
     memory: Memory,
@@ -96,7 +96,11 @@ impl<C: Controller> Session<C> {
     ) -> Result<(), String> {
         let kept = (self.memory.clone(), self.state.clone(), self.ledger.take());
         self.replace(self.memory.with_length(region, length));
-        self.call_and_restore(kept, call, coverage)
+        let answer = self.call_and_restore(kept, call, coverage)?;
+        if answer.refusal != 0 && call.as_reset().is_none() {
+            coverage.note(vec![wrong_length(C::REGIONS[region].0, answer.refusal)]);
+        }
+        Ok(())
     }
 
     /// Changes the memory for this call; if it is refused, the change is undone.
@@ -108,7 +112,7 @@ impl<C: Controller> Session<C> {
     ) -> Result<(), String> {
         let kept = (self.memory.clone(), self.state.clone(), self.ledger.take());
         self.change(changes);
-        self.call_and_restore(kept, call, coverage)
+        self.call_and_restore(kept, call, coverage).map(|_| ())
     }
 
     fn call_and_restore(
@@ -116,12 +120,12 @@ impl<C: Controller> Session<C> {
         kept: (Memory, C::State, Option<C::Ledger>),
         call: &C::Call,
         coverage: &mut Coverage,
-    ) -> Result<(), String> {
+    ) -> Result<Answer, String> {
         let answer = self.call(call, coverage)?;
         if answer.refusal != 0 {
             (self.memory, self.state, self.ledger) = kept;
         }
-        Ok(())
+        Ok(answer)
     }
 }
 

@@ -1,18 +1,11 @@
-//! Capacity: the places where a first version goes wrong, with numbers by hand.
+//! Capacity: the places where a first version goes wrong, with numbers by hand; a block has one unit.
 
-use super::case::{cache_event, CapacityCase};
+use super::case::capacity_record::ALLOC_CTL_WORD;
+use super::case::{fill, CapacityCase};
 use super::Report;
-use crate::model::capacity::Call;
+use crate::model::capacity::slices::*;
 
-const EIGHT_BLOCKS: [u64; 5] = [8, 4, 2, 4, 24];
-
-// slices by number
-const MASKS: usize = 1;
-const COUNTERS: usize = 2;
-const EVENTS: usize = 3;
-
-// words of the record
-const ALLOC_CTL_WORD: usize = 7;
+const EIGHT_BLOCKS: [u64; 6] = [8, 4, 2, 4, 24, 1];
 
 pub fn run(report: &mut Report) {
     after_reset(report);
@@ -23,12 +16,12 @@ pub fn run(report: &mut Report) {
     ends_of_a_counter(report);
     counter_settings(report);
     access_types(report);
-    refused_events(report);
+    refused_fills(report);
 }
 
 fn after_reset(report: &mut Report) {
     let mut c = CapacityCase::after_reset(report, EIGHT_BLOCKS);
-    c.read("capabilities", 8, 0, 0x801);
+    c.read("capabilities, FRCID 1", 8, 0, 0x0100_0801);
     for offset in [8, 16, 24, 32] {
         c.read("other registers are 0", 8, offset, 0);
     }
@@ -39,8 +32,8 @@ fn after_reset(report: &mut Report) {
     c.fill("RCID 0 has every block", [0, 0, 1, 7], 1);
     c.fill("RCID 1 has none", [1, 0, 0, 0], 0);
 
-    let mut c = CapacityCase::after_reset(report, [64, 1, 1, 1, 62]);
-    c.read("capabilities of 64 blocks", 8, 0, 0x4001);
+    let mut c = CapacityCase::after_reset(report, [64, 1, 1, 1, 62, 1]);
+    c.read("capabilities of 64 blocks", 8, 0, 0x0100_4001);
     c.word("all 64", MASKS, 0, u64::MAX);
     c.fill("block 63", [0, 0, 0, 63], 1);
 }
@@ -64,7 +57,7 @@ fn masks(report: &mut Report) {
 }
 
 fn mask_halves(report: &mut Report) {
-    let mut c = CapacityCase::after_reset(report, [64, 2, 1, 1, 24]);
+    let mut c = CapacityCase::after_reset(report, [64, 2, 1, 1, 24, 1]);
     c.write(4, 0x24, 0xAABB_CCDD);
     c.read("the high half alone", 8, 0x20, 0xAABB_CCDD_0000_0000);
     c.write(4, 0x20, 0x1122_3344);
@@ -73,12 +66,12 @@ fn mask_halves(report: &mut Report) {
     c.alloc("configured", 0x101, 1);
     c.word("whole", MASKS, 1, 0xAABB_CCDD_1122_3344);
 
-    let mut c = CapacityCase::after_reset(report, [40, 2, 1, 1, 24]);
+    let mut c = CapacityCase::after_reset(report, [40, 2, 1, 1, 24, 1]);
     c.write(4, 0x20, 0xFFFF_FFFF);
     c.write(4, 0x24, 0xFFFF_FF02);
     c.read("40 blocks", 8, 0x20, 0x2_FFFF_FFFF);
 
-    let mut c = CapacityCase::after_reset(report, [32, 2, 1, 1, 24]);
+    let mut c = CapacityCase::after_reset(report, [32, 2, 1, 1, 24, 1]);
     c.write(4, 0x24, 0xFFFF_FFFF);
     c.read("32 blocks", 8, 0x20, 0);
 }
@@ -87,7 +80,8 @@ fn failed_operations(report: &mut Report) {
     let mut c = CapacityCase::after_reset(report, EIGHT_BLOCKS);
     let changes = [
         ("OP 0", 0x0, 0x2_0000_0000),
-        ("OP 3, FLUSH_RCID", 0x103, 0x2_0000_0103),
+        ("OP 4", 0x104, 0x2_0000_0104),
+        ("FLUSH_RCID of RCID 4 with a bad AT", 0x463, 0x3_0000_0463),
         ("OP 31 with bad RCID and AT", 0xF_FFFF, 0x2_000F_FFFF),
         ("RCID 4 with a bad AT", 0x461, 0x3_0000_0461),
         ("AT 2 of 2", 0x141, 0x4_0000_0141),
@@ -106,29 +100,32 @@ fn failed_operations(report: &mut Report) {
 
 fn occupancy(report: &mut Report) {
     let mut c = CapacityCase::after_reset(report, EIGHT_BLOCKS);
-    c.fill("a stopped counter", [0, 1, 0, 0], 1);
+    c.fill("a stopped counter", [0, 1, 0, 7], 1);
     c.word("counts nothing", COUNTERS, 1, 0);
     c.mon("event 1 of MCID 1", 0x10_0101, 1);
     c.fill("allowed", [0, 1, 0, 0], 1);
-    c.fill("allowed, the same block again", [0, 1, 1, 0], 1);
-    c.fill("another MCID", [0, 2, 0, 0], 1);
-    c.fill("not allowed", [1, 1, 0, 0], 0);
+    c.fill("another unit, AT 1", [0, 1, 1, 1], 1);
+    c.fill("another MCID", [0, 2, 0, 2], 1);
+    c.fill("not allowed", [1, 1, 0, 3], 0);
     c.word("two fills", COUNTERS, 1, 2);
-    c.evict([3, 1, 1, 7]);
+    c.configure("RCID 0 has block 7 alone", (0, 1), 0x80, 1);
+    c.evict(1);
     c.word("an eviction needs no mask", COUNTERS, 1, 1);
     c.mon("READ_COUNTER", 0x102, 1);
     c.read("mon_ctr_val", 8, 0x10, 1);
     c.mon("event 0", 0x101, 1);
-    c.evict([0, 1, 0, 0]);
+    c.evict(0);
     c.word("stopped", COUNTERS, 1, 1);
     c.mon("event 1 again", 0x10_0101, 1);
     c.word("from 0", COUNTERS, 1, 0);
 }
 
+/// Unit 0 is filled while the counter is stopped, so its eviction counts below 0.
 fn ends_of_a_counter(report: &mut Report) {
     let mut c = CapacityCase::after_reset(report, EIGHT_BLOCKS);
+    c.fill("before the event is set", [0, 0, 0, 0], 1);
     c.mon("event 1", 0x10_0001, 1);
-    c.evict([0, 0, 0, 0]);
+    c.evict(0);
     c.word("at 0 it stays and becomes INVALID", COUNTERS, 0, 0x8000_0000_0000_0000);
     c.fill("counting goes on", [0, 0, 0, 0], 1);
     c.word("with INVALID", COUNTERS, 0, 0x8000_0000_0000_0001);
@@ -137,18 +134,18 @@ fn ends_of_a_counter(report: &mut Report) {
     c.mon("event 1", 0x10_0001, 1);
     c.word("event 1 clears it", COUNTERS, 0, 0);
     c.store(COUNTERS, 0, 0xFF_FFFE);
-    c.fill("to 2^24 - 1", [0, 0, 0, 0], 1);
+    c.fill("to 2^24 - 1", [0, 0, 0, 1], 1);
     c.word("2^24 - 1", COUNTERS, 0, 0xFF_FFFF);
-    c.fill("not allowed", [1, 0, 0, 0], 0);
+    c.fill("not allowed", [1, 0, 0, 2], 0);
     c.word("a fill that is not allowed changes nothing", COUNTERS, 0, 0xFF_FFFF);
-    c.fill("beyond", [0, 0, 0, 0], 1);
+    c.fill("beyond", [0, 0, 0, 2], 1);
     c.word("it stays and becomes INVALID", COUNTERS, 0, 0x8000_0000_00FF_FFFF);
-    c.evict([0, 0, 0, 0]);
+    c.evict(2);
     c.word("INVALID lasts", COUNTERS, 0, 0x8000_0000_00FF_FFFE);
     c.mon("READ_COUNTER", 0x2, 1);
     c.read("mon_ctr_val", 8, 0x10, 0x8000_0000_00FF_FFFE);
 
-    let mut c = CapacityCase::after_reset(report, [8, 1, 1, 1, 62]);
+    let mut c = CapacityCase::after_reset(report, [8, 1, 1, 1, 62, 1]);
     c.mon("event 1", 0x10_0001, 1);
     c.store(COUNTERS, 0, 0x3FFF_FFFF_FFFF_FFFF);
     c.fill("at 2^62 - 1", [0, 0, 0, 0], 1);
@@ -180,17 +177,20 @@ fn access_types(report: &mut Report) {
     c.mon("MCID 0 counts AT 0", 0x1010_0001, 1);
     c.mon("MCID 1 counts AT 1", 0x1010_0121, 1);
     c.fill("AT 2 of 2 goes by the mask of AT 0", [0, 0, 2, 0], 1);
-    c.fill("so does 2^64 - 1", [0, 0, u64::MAX, 0], 1);
+    c.word("and is stored as AT 0", OWNERS, 0, 0x0008_0000);
+    c.fill("so does 2^64 - 1", [0, 0, u64::MAX, 2], 1);
     c.fill("AT 1 has its own mask", [0, 0, 1, 0], 0);
     c.fill("and is not counted by MCID 0", [0, 0, 1, 1], 1);
     c.word("AT 0 twice", COUNTERS, 0, 2);
     c.fill("AT 1", [0, 1, 1, 1], 1);
-    c.fill("AT 0", [0, 1, 0, 1], 1);
+    c.fill("AT 9 counts as AT 0", [0, 1, 9, 3], 1);
     c.word("AT 1 once", COUNTERS, 1, 1);
-    c.evict([0, 1, 9, 1]);
-    c.word("an eviction of AT 9 counts as AT 0", COUNTERS, 1, 1);
+    c.evict(3);
+    c.word("and so does its eviction", COUNTERS, 1, 1);
+    c.evict(1);
+    c.word("AT 1 is counted", COUNTERS, 1, 0);
 
-    let mut c = CapacityCase::after_reset(report, [8, 2, 1, 1, 24]);
+    let mut c = CapacityCase::after_reset(report, [8, 2, 1, 1, 24, 1]);
     c.configure("AT 7 of alloc_ctl is held as 0", (1, 7), 1, 1);
     c.read("alloc_ctl", 8, 0x18, 0x1_0000_0101);
     c.mon("ATV and AT are held as 0", 0x1010_00E1, 1);
@@ -198,19 +198,19 @@ fn access_types(report: &mut Report) {
     c.word("the setting too", EVENTS, 0, 0x0001);
 }
 
-fn refused_events(report: &mut Report) {
+/// An eviction has no check 7.
+fn refused_fills(report: &mut Report) {
     let mut c = CapacityCase::after_reset(report, EIGHT_BLOCKS);
-    let events = [
+    let fills = [
         ("RCID 4 of 4", [4, 0, 0, 0], 7),
         ("MCID 4 of 4", [0, 4, 0, 0], 7),
         ("7 comes before 8", [4, 0, 0, 8], 7),
         ("MCID 2^64 - 1", [0, u64::MAX, 0, 8], 7),
-        ("block 8 of 8", [0, 0, 0, 8], 8),
-        ("block 64", [0, 0, 0, 64], 8),
-        ("block 2^64 - 1", [1, 0, 0, u64::MAX], 8),
+        ("unit 8 of 8", [0, 0, 0, 8], 8),
+        ("unit 64", [0, 0, 0, 64], 8),
+        ("unit 2^64 - 1", [1, 0, 0, u64::MAX], 8),
     ];
-    for (name, event, number) in events {
-        c.refuses(name, &Call::Fill(cache_event(event)), number);
-        c.refuses(name, &Call::Evict(cache_event(event)), number);
+    for (name, arguments, number) in fills {
+        c.refuses(name, &fill(arguments), number);
     }
 }

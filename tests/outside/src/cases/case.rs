@@ -5,7 +5,7 @@ use crate::controller::{Bandwidth, Capacity, Controller};
 use crate::image::Image;
 use crate::memory::Memory;
 use crate::model::access::{ALLOC_CTL, MON_CTL, OPERAND};
-use crate::model::registers::{CONFIG_LIMIT, READ_LIMIT, STATUS};
+use crate::model::registers::{CONFIG_LIMIT, FLUSH_RCID, READ_LIMIT, STATUS};
 use crate::model::{bandwidth, capacity, Answer, Checked, CommonCall, Performs};
 
 pub struct Case<'a, C: Controller> {
@@ -22,6 +22,14 @@ pub mod bandwidth_record {
     pub const W: usize = 6;
     pub const ALLOC_CTL_WORD: usize = 9;
     pub const POOL: usize = 11;
+}
+
+/// Words of the capacity controller's record, by number.
+pub mod capacity_record {
+    pub const MON_CTL_WORD: usize = 6;
+    pub const MON_CTR_VAL_WORD: usize = 7;
+    pub const ALLOC_CTL_WORD: usize = 8;
+    pub const BLOCK_MASK_WORD: usize = 9;
 }
 
 /// What lent memory holds before the first reset.
@@ -120,17 +128,17 @@ impl<'a, C: Controller> Case<'a, C> {
 
     /// Writes alloc_ctl and expects its STATUS.
     pub fn alloc(&mut self, name: &str, value: u64, status: u64) {
-        self.write(8, ALLOC_CTL, value);
-        self.status(name, ALLOC_CTL, status);
+        self.operation(name, ALLOC_CTL, value, status);
     }
 
     /// Writes mon_ctl and expects its STATUS.
     pub fn mon(&mut self, name: &str, value: u64, status: u64) {
-        self.write(8, MON_CTL, value);
-        self.status(name, MON_CTL, status);
+        self.operation(name, MON_CTL, value, status);
     }
 
-    fn status(&mut self, name: &str, offset: u64, status: u64) {
+    /// Writes a control register and expects its STATUS.
+    pub fn operation(&mut self, name: &str, offset: u64, value: u64, status: u64) {
+        self.write(8, offset, value);
         let answer = self.call(&C::Call::read(8, offset));
         self.report.expect(name, STATUS.get(answer.value), status);
     }
@@ -250,26 +258,31 @@ pub fn device_request([mode, word, at, kind, bytes]: [u64; 5]) -> bandwidth::Cal
 }
 
 impl<'a> Case<'a, Capacity> {
-    /// NCBLKS, NR, NA, NM, W; the memory fits and is reset.
-    pub fn after_reset(report: &'a mut Report, numbers: [u64; 5]) -> CapacityCase<'a> {
+    /// NCBLKS, NR, NA, NM, W, U; the memory fits and is reset.
+    pub fn after_reset(report: &'a mut Report, numbers: [u64; 6]) -> CapacityCase<'a> {
         Case::reset_to(report, capacity_setup(numbers))
     }
 
-    /// A fill by RCID, MCID, AT and block; 1 is allowed.
-    pub fn fill(&mut self, name: &str, event: [u64; 4], allowed: u64) {
-        self.answers(name, &capacity::Call::Fill(cache_event(event)), allowed);
+    /// A fill by RCID, MCID, AT and unit; 1 is allowed.
+    pub fn fill(&mut self, name: &str, arguments: [u64; 4], allowed: u64) {
+        self.answers(name, &fill(arguments), allowed);
     }
 
-    pub fn evict(&mut self, event: [u64; 4]) {
-        self.answers("eviction", &capacity::Call::Evict(cache_event(event)), 0);
+    pub fn evict(&mut self, unit: u64) {
+        self.answers("eviction", &capacity::Call::Evict { unit }, 0);
+    }
+
+    /// FLUSH_RCID of an RCID that exists.
+    pub fn flush(&mut self, name: &str, rcid: u64) {
+        self.alloc(name, rcid << 8 | FLUSH_RCID, 1);
     }
 }
 
-pub fn capacity_setup(numbers: [u64; 5]) -> capacity::Setup {
-    let [ncblks, nr, na, nm, w] = numbers;
-    capacity::Setup { ncblks, nr, na, nm, w }
+pub fn capacity_setup(numbers: [u64; 6]) -> capacity::Setup {
+    let [ncblks, nr, na, nm, w, u] = numbers;
+    capacity::Setup { ncblks, nr, na, nm, w, u }
 }
 
-pub fn cache_event([rcid, mcid, at, block]: [u64; 4]) -> capacity::Event {
-    capacity::Event { rcid, mcid, at, block }
+pub fn fill([rcid, mcid, at, unit]: [u64; 4]) -> capacity::Call {
+    capacity::Call::Fill(capacity::Fill { rcid, mcid, at, unit })
 }

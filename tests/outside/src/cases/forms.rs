@@ -1,6 +1,6 @@
 //! Refusal 3: one word of a good state is changed, and the state is well formed or not.
 
-use super::case::{bandwidth_setup, cache_event, capacity_setup};
+use super::case::{bandwidth_setup, capacity_setup};
 use super::case::{BandwidthCase, CapacityCase, Case};
 use super::Report;
 use crate::controller::{Bandwidth, Controller};
@@ -9,7 +9,7 @@ use crate::model::{bandwidth, capacity, CommonCall};
 
 const TWO_TYPES: [u64; 7] = [100, 80, 4, 2, 4, 64, 24];
 const ONE_TYPE: [u64; 7] = [100, 80, 4, 1, 4, 64, 24];
-const CAPACITY: [u64; 5] = [8, 4, 2, 4, 24];
+const CAPACITY: [u64; 6] = [8, 4, 2, 4, 24, 3];
 
 pub fn run(report: &mut Report) {
     bandwidth_forms(report);
@@ -163,31 +163,42 @@ fn try_bandwidth(numbers: [u64; 7]) -> Try<Bandwidth> {
 }
 
 fn capacity_forms(report: &mut Report) {
-    let mut c = CapacityCase::after_reset(report, CAPACITY);
-    // slices: 0 record, 1 masks, 2 counters, 3 events
-    let forms: [Form; 19] = [
-        ("every field of mon_ctl", 0, 5, 0x7F_1FFF_FFFF, 0),
-        ("BUSY of mon_ctl", 0, 5, 0x80_0000_0000, 3),
-        ("any mon_ctr_val", 0, 6, u64::MAX, 0),
-        ("every field of alloc_ctl", 0, 7, 0x7F_000F_FFFF, 0),
-        ("BUSY of alloc_ctl", 0, 7, 0x80_0000_0000, 3),
-        ("every block", 0, 8, 0xFF, 0),
-        ("block 8 of block_mask", 0, 8, 0x100, 3),
-        ("a mask of 0 is an unset pair", 1, 0, 0, 0),
-        ("any blocks", 1, 7, 0xA5, 0),
-        ("block 8 of a mask", 1, 7, 0x1FF, 3),
-        ("bit 63 of a mask", 1, 3, 1 << 63, 3),
-        ("2^24 - 1 and INVALID", 2, 3, 0x8000_0000_00FF_FFFF, 0),
-        ("2^24", 2, 3, 0x0100_0000, 3),
-        ("bit 62", 2, 0, 1 << 62, 3),
-        ("event 1, ATV 1, AT 1", 3, 2, 0x0901, 0),
-        ("event 2", 3, 2, 0x0002, 3),
-        ("AT without ATV", 3, 2, 0x0101, 3),
-        ("ATV without an event", 3, 2, 0x0800, 3),
-        ("AT 2 of 2", 3, 2, 0x0A01, 3),
+    use super::case::capacity_record::*;
+    use capacity::slices::*;
+    let forms: [Form; 30] = [
+        ("every field of mon_ctl", RECORD, MON_CTL_WORD, 0x7F_1FFF_FFFF, 0),
+        ("BUSY of mon_ctl", RECORD, MON_CTL_WORD, 0x80_0000_0000, 3),
+        ("any mon_ctr_val", RECORD, MON_CTR_VAL_WORD, u64::MAX, 0),
+        ("every field of alloc_ctl", RECORD, ALLOC_CTL_WORD, 0x7F_000F_FFFF, 0),
+        ("BUSY of alloc_ctl", RECORD, ALLOC_CTL_WORD, 0x80_0000_0000, 3),
+        ("every block", RECORD, BLOCK_MASK_WORD, 0xFF, 0),
+        ("block 8 of block_mask", RECORD, BLOCK_MASK_WORD, 0x100, 3),
+        ("a mask of 0 is an unset pair", MASKS, 0, 0, 0),
+        ("any blocks", MASKS, 7, 0xA5, 0),
+        ("block 8 of a mask", MASKS, 7, 0x1FF, 3),
+        ("bit 63 of a mask", MASKS, 3, 1 << 63, 3),
+        ("2^24 - 1 and INVALID", COUNTERS, 3, 0x8000_0000_00FF_FFFF, 0),
+        ("2^24", COUNTERS, 3, 0x0100_0000, 3),
+        ("bit 62", COUNTERS, 0, 1 << 62, 3),
+        ("event 1, ATV 1, AT 1", EVENTS, 2, 0x0901, 0),
+        ("event 2", EVENTS, 2, 0x0002, 3),
+        ("AT without ATV", EVENTS, 2, 0x0101, 3),
+        ("ATV without an event", EVENTS, 2, 0x0800, 3),
+        ("AT 2 of 2", EVENTS, 2, 0x0A01, 3),
+        ("an owner of RCID, MCID and AT 0", OWNERS, 0, 0x0008_0000, 0),
+        ("the highest of each field", OWNERS, 23, 0x0009_0303, 0),
+        ("RCID 4 of 4", OWNERS, 23, 0x0008_0004, 3),
+        ("RCID 128", OWNERS, 0, 0x0008_0080, 3),
+        ("MCID 4 of 4", OWNERS, 1, 0x0008_0400, 3),
+        ("MCID 128", OWNERS, 22, 0x0008_8000, 3),
+        ("AT 2 of 2", OWNERS, 12, 0x000A_0000, 3),
+        ("AT 4", OWNERS, 12, 0x000C_0000, 3),
+        ("an RCID, not owned", OWNERS, 23, 0x0000_0001, 3),
+        ("bit 20 of an owner", OWNERS, 2, 0x0018_0000, 3),
+        ("bit 31 alone", OWNERS, 2, 0x8000_0000, 3),
     ];
-    let (setup, call) =
-        (capacity_setup(CAPACITY), capacity::Call::Evict(cache_event([0, 0, 0, 0])));
-    let tried = Try { setup, capabilities: 0x801, call };
+    let mut c = CapacityCase::after_reset(report, CAPACITY);
+    let (setup, call) = (capacity_setup(CAPACITY), capacity::Call::Evict { unit: 0 });
+    let tried = Try { setup, capabilities: 0x0100_0801, call };
     forms.into_iter().for_each(|form| tried.form(&mut c, form));
 }

@@ -2,6 +2,7 @@
 
 use super::case::{BandwidthCase, CapacityCase};
 use super::Report;
+use crate::model::capacity::slices::OWNERS;
 
 pub fn run(report: &mut Report) {
     three_access_types(report);
@@ -63,8 +64,8 @@ const MASKS: [((u64, u64), u64); 6] = [
 ];
 
 fn eight_blocks(report: &mut Report) {
-    let mut c = CapacityCase::after_reset(report, [8, 7, 2, 1, 24]);
-    c.read("capabilities, FRCID 0", 8, 0, 0x801);
+    let mut c = CapacityCase::after_reset(report, [8, 7, 2, 1, 24, 1]);
+    c.read("capabilities, FRCID 1", 8, 0, 0x0100_0801);
     for (pair, mask) in MASKS {
         c.configure("a published mask", pair, mask, 1);
     }
@@ -75,5 +76,9 @@ fn eight_blocks(report: &mut Report) {
             c.fill("a fill by the published table", [pair.0, 0, pair.1, block], allowed);
         }
     }
-    c.alloc("FLUSH_RCID is invalid while FRCID is 0", 0x303, 2);
+    c.word("block 3 is RCID 6's", OWNERS, 3, 0x0009_0006);
+    c.flush("FLUSH_RCID of RCID 6", 6);
+    c.word("block 3 is free", OWNERS, 3, 0);
+    c.word("block 0 is RCID 5's", OWNERS, 0, 0x0008_0005);
+    c.read_limit("its mask stays", (6, 0), 0b0001_1000);
 }

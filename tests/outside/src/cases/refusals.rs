@@ -1,12 +1,13 @@
 //! Refusals 1, 2 and 4 to 7, and the order in which they are judged.
 
 use super::case::bandwidth_record::W;
-use super::case::{bandwidth_setup, capacity_setup, BandwidthCase, CapacityCase};
+use super::case::{bandwidth_setup, capacity_setup, fill, BandwidthCase, CapacityCase};
 use super::Report;
 use crate::model::bandwidth::slices::*;
 use crate::model::{bandwidth, capacity};
 
 const SETUP: [u64; 7] = [100, 80, 4, 2, 4, 64, 24];
+const CAPACITY: [u64; 6] = [8, 4, 2, 4, 24, 3];
 
 pub fn run(report: &mut Report) {
     bandwidth_ranges(report);
@@ -48,15 +49,15 @@ fn reset_of(numbers: [u64; 7]) -> bandwidth::Call {
 }
 
 fn capacity_ranges(report: &mut Report) {
-    let lowest = [1, 1, 1, 1, 24];
-    let highest = [64, 256, 8, 256, 62];
+    let lowest = [1, 1, 1, 1, 24, 1];
+    let highest = [64, 256, 8, 256, 62, 64];
     for numbers in [lowest, highest] {
         CapacityCase::after_reset(report, numbers);
     }
-    let mut c = CapacityCase::after_reset(report, [8, 4, 2, 4, 24]);
+    let mut c = CapacityCase::after_reset(report, CAPACITY);
     for (index, (low, high)) in lowest.into_iter().zip(highest).enumerate() {
         for beyond in [low - 1, high + 1, 1 << 32, u64::MAX] {
-            let mut numbers = [8, 4, 2, 4, 24];
+            let mut numbers = CAPACITY;
             numbers[index] = beyond;
             let reset = capacity::Call::Reset(capacity_setup(numbers));
             c.refuses("a number out of range", &reset, 1);
@@ -125,18 +126,26 @@ pub fn lengths_first(c: &mut BandwidthCase, calls: &[bandwidth::Call]) {
 }
 
 fn capacity_lengths(report: &mut Report) {
-    let mut c = CapacityCase::after_reset(report, [8, 4, 2, 4, 24]);
+    let mut c = CapacityCase::after_reset(report, CAPACITY);
     for (region, right) in c.lengths().into_iter().enumerate() {
         let number = if region == 0 { 1 } else { 2 };
         for length in [0, right - 1, right + 1, right + 8] {
             c.aside(|c| {
                 c.lend_length(region, length);
                 c.refuses("a read", &capacity::Call::Read { size: 8, offset: 0 }, number);
-                let reset = capacity::Call::Reset(capacity_setup([8, 4, 2, 4, 24]));
+                c.refuses("a fill", &fill([0, 0, 0, 0]), number);
+                c.refuses("an eviction", &capacity::Call::Evict { unit: 0 }, number);
+                let reset = capacity::Call::Reset(capacity_setup(CAPACITY));
                 c.refuses("a reset", &reset, number);
             });
         }
     }
+    for numbers in [[8, 4, 2, 4, 24, 2], [8, 4, 2, 4, 24, 4], [7, 4, 2, 4, 24, 3]] {
+        let reset = capacity::Call::Reset(capacity_setup(numbers));
+        c.refuses("another number of units", &reset, 2);
+    }
+    // 8 times 3 is 4 times 6
+    c.answers("as many units", &capacity::Call::Reset(capacity_setup([4, 4, 2, 4, 24, 6])), 0);
 }
 
 fn sizes_and_offsets(report: &mut Report) {

@@ -4,6 +4,7 @@ use super::case::{BandwidthCase, CapacityCase, Case};
 use super::Report;
 use crate::controller::Controller;
 use crate::model::bandwidth::slices::*;
+use crate::model::capacity::slices::{MASKS, OWNERS};
 use crate::model::CommonCall;
 
 /// NR and NA.
@@ -20,6 +21,9 @@ pub fn run(report: &mut Report) {
     for nm in [1, 7, 33, 256] {
         bandwidth_counters(report, nm);
         capacity_counters(report, nm);
+    }
+    for (ncblks, u) in [(64, 64), (64, 1), (1, 64), (1, 1), (13, 7), (31, 33)] {
+        capacity_owners(report, ncblks, u);
     }
 }
 
@@ -139,27 +143,44 @@ fn bandwidth_counters(report: &mut Report, nm: u64) {
 
 /// 47 blocks: bit 47 and those above are held as 0.
 fn capacity_masks(report: &mut Report, nr: u64, na: u64) {
-    let mut c = CapacityCase::after_reset(report, [47, nr, na, 3, 24]);
+    let mut c = CapacityCase::after_reset(report, [47, nr, na, 3, 24, 1]);
     for place in 0..(nr * na) as usize {
-        probe(&mut c, "every block", &[(1, place, (1 << 47) - 1)], 0);
-        probe(&mut c, "no block", &[(1, place, 0)], 0);
-        probe(&mut c, "bit 47", &[(1, place, 1 << 47)], 3);
-        probe(&mut c, "bit 63", &[(1, place, 1 << 63)], 3);
+        probe(&mut c, "every block", &[(MASKS, place, (1 << 47) - 1)], 0);
+        probe(&mut c, "no block", &[(MASKS, place, 0)], 0);
+        probe(&mut c, "bit 47", &[(MASKS, place, 1 << 47)], 3);
+        probe(&mut c, "bit 63", &[(MASKS, place, 1 << 63)], 3);
+    }
+}
+
+/// 100 RCIDs, 50 MCIDs and 5 access types.
+fn capacity_owners(report: &mut Report, ncblks: u64, u: u64) {
+    let mut c = CapacityCase::after_reset(report, [ncblks, 100, 5, 50, 24, u]);
+    for unit in 0..(ncblks * u) as usize {
+        let mut word = |name, value, number| probe(&mut c, name, &[(OWNERS, unit, value)], number);
+        word("the lowest of each field", 0x0008_0000, 0);
+        word("the highest of each field", 0x000C_3163, 0);
+        word("RCID 100", 0x0008_0064, 3);
+        word("MCID 50", 0x0008_3200, 3);
+        word("AT 5", 0x000D_0000, 3);
+        word("not owned", 0x0004_3163, 3);
+        word("bit 20", 0x0018_0000, 3);
+        word("bit 31", 0x8008_0000, 3);
     }
 }
 
 fn capacity_counters(report: &mut Report, nm: u64) {
-    let mut c = CapacityCase::after_reset(report, [8, 2, 3, nm, 30]);
+    use crate::model::capacity::slices::{COUNTERS, EVENTS};
+    let mut c = CapacityCase::after_reset(report, [8, 2, 3, nm, 30, 1]);
     for mcid in 0..nm as usize {
-        probe(&mut c, "2^30 - 1", &[(2, mcid, (1 << 30) - 1)], 0);
-        probe(&mut c, "2^30", &[(2, mcid, 1 << 30)], 3);
-        probe(&mut c, "bit 62", &[(2, mcid, 1 << 62)], 3);
-        probe(&mut c, "INVALID", &[(2, mcid, 1 << 63)], 0);
-        probe(&mut c, "event 1, AT 2", &[(3, mcid, 0x0A01)], 0);
-        probe(&mut c, "event 1, AT 3 of 3", &[(3, mcid, 0x0B01)], 3);
-        probe(&mut c, "event 2", &[(3, mcid, 0x0002)], 3);
-        probe(&mut c, "event 3", &[(3, mcid, 0x0003)], 3);
-        probe(&mut c, "AT without ATV", &[(3, mcid, 0x0201)], 3);
-        probe(&mut c, "bit 12", &[(3, mcid, 0x1001)], 3);
+        probe(&mut c, "2^30 - 1", &[(COUNTERS, mcid, (1 << 30) - 1)], 0);
+        probe(&mut c, "2^30", &[(COUNTERS, mcid, 1 << 30)], 3);
+        probe(&mut c, "bit 62", &[(COUNTERS, mcid, 1 << 62)], 3);
+        probe(&mut c, "INVALID", &[(COUNTERS, mcid, 1 << 63)], 0);
+        probe(&mut c, "event 1, AT 2", &[(EVENTS, mcid, 0x0A01)], 0);
+        probe(&mut c, "event 1, AT 3 of 3", &[(EVENTS, mcid, 0x0B01)], 3);
+        probe(&mut c, "event 2", &[(EVENTS, mcid, 0x0002)], 3);
+        probe(&mut c, "event 3", &[(EVENTS, mcid, 0x0003)], 3);
+        probe(&mut c, "AT without ATV", &[(EVENTS, mcid, 0x0201)], 3);
+        probe(&mut c, "bit 12", &[(EVENTS, mcid, 0x1001)], 3);
     }
 }

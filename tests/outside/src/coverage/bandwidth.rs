@@ -6,7 +6,7 @@ mod served;
 mod waiters;
 mod weights;
 
-use super::{common_required, operation, unknown, Labels};
+use super::{common_required, operation, unknown, Labels, Rows, OPERATIONS};
 use crate::ledger::bandwidth::required as ledger_required;
 use crate::model::access::ALLOC_CTL;
 use crate::model::bandwidth::settings::{is_sharer, RBWB, SHARED_AT, USE_SHARED};
@@ -14,8 +14,8 @@ use crate::model::bandwidth::{Call, Request, State, OVF};
 use crate::model::registers::{AT, RCID, STATUS};
 use crate::model::{Answer, Checked, Sizes};
 
-/// First and last code of each row of EVT_ID.
-const EVENTS: [(u64, u64); 6] = [(0, 0), (1, 1), (2, 2), (3, 3), (4, 127), (128, 255)];
+const ROWS: Rows =
+    Rows { alloc: &OPERATIONS, events: &[(0, 0), (1, 1), (2, 2), (3, 3), (4, 127), (128, 255)] };
 
 pub fn call_name(call: &Call) -> &'static str {
     match call {
@@ -34,12 +34,7 @@ pub fn accepted(before: &State, call: &Call, answer: Answer, after: &State) -> L
     let mut labels = Vec::new();
     match call {
         Call::Write { offset, .. } => {
-            labels.extend(operation(
-                *offset,
-                after.record.alloc_ctl,
-                after.record.mon_ctl,
-                &EVENTS,
-            ));
+            labels.extend(operation(*offset, after.record.alloc_ctl, after.record.mon_ctl, &ROWS));
             labels.extend(setting_change(before, after));
             if *offset == ALLOC_CTL && STATUS.get(after.record.alloc_ctl) == 5 {
                 labels.push(format!("bad operand: {}", bad_operand(after)));
@@ -167,7 +162,7 @@ pub fn required() -> Labels {
             ("wait", &[1, 2, 3, 7, 10, 11]),
             ("end_window", &[1, 2, 3]),
         ],
-        &EVENTS,
+        &ROWS,
     );
     labels.extend(OTHERS.map(String::from));
     labels.extend(grants::SOURCES.map(String::from));

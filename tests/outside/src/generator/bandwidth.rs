@@ -3,7 +3,6 @@
 mod damage;
 mod devices;
 mod operand;
-mod plan;
 mod states;
 mod waiters;
 mod weights;
@@ -51,7 +50,7 @@ pub fn scenario(random: &mut Random, state: &State, lengths: &[usize], quiet: bo
         90..=94 => common::damaged_call(random, damage, call),
         95 => common::kept_damage(random, damage, call),
         96 => edge_of_counter(random, state),
-        97 | 98 => states::loaded(random, &setup),
+        97 | 98 => states::any_loaded(random, &setup),
         _ => common::another_reset::<Bandwidth>(random, &setup),
     }
 }
@@ -141,8 +140,7 @@ fn any_request(random: &mut Random, setup: &Setup, bytes: u32) -> Request {
         other => other % 2,
     };
     let (rcid, at) = common::any_pair(random, setup);
-    let both_unknown = rcid >= setup.nr && random.percent(25);
-    let mcid = if both_unknown { setup.nm } else { random.index(setup.nm) };
+    let mcid = common::any_mcid(random, setup, rcid);
     Request { rcid, mcid, at, kind, bytes }
 }
 

@@ -1,14 +1,19 @@
 //! Lists of calls of the capacity controller.
 
 mod damage;
+mod states;
+mod units;
 
 use super::common;
 use super::{setups, Change, Random, Step};
 use crate::controller::Capacity;
 use crate::model::access::{ALLOC_CTL, MON_CTR_VAL, OPERAND};
-use crate::model::capacity::{all_blocks, Call, Event, Setup, State, LAST_EVENT};
-use crate::model::registers::{CONFIG_LIMIT, READ_COUNTER, READ_LIMIT};
+use crate::model::capacity::owners::owner_of;
+use crate::model::capacity::slices::{COUNTERS, EVENTS, OWNERS};
+use crate::model::capacity::{all_blocks, Call, Fill, Setup, State, LAST_EVENT};
+use crate::model::registers::{CONFIG_LIMIT, FLUSH_RCID, READ_COUNTER, READ_LIMIT};
 use crate::model::{Checked, CommonCall, Sizes};
+use units::{any_fill, any_flush, any_unit, units};
 
 type Steps = Vec<Step<Call>>;
 
@@ -18,48 +23,46 @@ pub fn scenario(random: &mut Random, state: &State, lengths: &[usize], quiet: bo
     if state.refusal(lengths, &Call::read(8, 0)) != 0 {
         return common::recovery::<Capacity>(random);
     }
-    let damage = |random: &mut Random| damage::damage(random, &setup, lengths);
+    let damage = |random: &mut Random| damage::damage(random, state, lengths);
     let call = |random: &mut Random| any_call(random, &setup);
     // large tables may be read in parts: more of what only refusal 3 can show
-    if !quiet && setup.pairs() > 32 && random.percent(40) {
+    let large = setup.pairs() > 32 || setup.units() > 512;
+    if !quiet && large && random.percent(40) {
         return common::damaged_call(random, damage, call);
     }
-    match random.below(if quiet { 89 } else { 100 }) {
-        0..=24 => configuration(random, &setup),
-        25..=54 => events(random, state),
-        55..=69 => monitoring(random, state),
-        70..=84 => vec![Step::Call(call(random))],
-        85..=88 => {
+    match random.below(if quiet { 87 } else { 100 }) {
+        0..=19 => configuration(random, &setup),
+        20..=44 => units(random, state),
+        45..=62 => monitoring(random, state),
+        63..=82 => vec![Step::Call(call(random))],
+        83..=86 => {
             let call = call(random);
             vec![common::wrong_length(random, lengths, call)]
         }
-        89..=95 => common::damaged_call(random, damage, call),
-        96 => common::kept_damage(random, damage, call),
-        97 | 98 => edge_of_counter(random, &setup),
+        87..=93 => common::damaged_call(random, damage, call),
+        94 => common::kept_damage(random, damage, call),
+        95 | 96 => edge_of_counter(random, &setup),
+        97 | 98 => states::any_loaded(random, &setup),
         _ => common::another_reset::<Capacity>(random, &setup),
     }
 }
 
 /// Any call, with arguments of every kind.
 pub fn any_call(random: &mut Random, setup: &Setup) -> Call {
-    let (size, offset, value) = match random.below(7) {
+    let (size, offset, value) = match random.below(8) {
         0 => {
             let (size, offset) = common::access(random);
             return Call::Read { size, offset };
         }
-        1 => return Call::Fill(any_event(random, setup)),
-        2 => return Call::Evict(any_event(random, setup)),
+        1 => return Call::Fill(any_fill(random, setup)),
+        2 => return Call::Evict { unit: any_unit(random, setup) },
         3 if random.percent(20) => return Call::Reset(setups::capacity::outside(random)),
         3 | 4 => common::any_write(random),
         5 => common::any_alloc_ctl(random, setup.nr, setup.na),
+        6 => any_flush(random, setup),
         _ => common::any_mon_ctl(random, setup.na, setup.nm, LAST_EVENT),
     };
     Call::Write { size, offset, value }
-}
-
-fn any_event(random: &mut Random, setup: &Setup) -> Event {
-    let (rcid, at) = common::any_pair(random, setup);
-    Event { rcid, mcid: random.index(setup.nm), at, block: random.index(setup.ncblks) }
 }
 
 /// Writes a mask, whole or by halves, asks for it to be configured, and often reads it back.
@@ -98,40 +101,36 @@ fn any_mask(random: &mut Random, setup: &Setup) -> u64 {
     }
 }
 
-fn events(random: &mut Random, state: &State) -> Steps {
-    let setup = &state.record.setup;
-    let count = random.between(1, 6);
-    let mut steps = Vec::new();
-    for _ in 0..count {
-        let event = any_event(random, setup);
-        let call = if random.percent(65) { Call::Fill(event) } else { Call::Evict(event) };
-        steps.push(Step::Call(call));
-    }
-    steps
-}
-
-/// Sets a counter's event, makes fills and evictions that it may count, and reads it.
+/// Sets a counter's event, makes fills, evictions and flushes that it may count, and reads it.
 fn monitoring(random: &mut Random, state: &State) -> Steps {
     let setup = &state.record.setup;
-    let calls = |random: &mut Random| events(random, state);
-    common::monitoring(random, setup, LAST_EVENT, calls, |call, mcid| match call {
-        Call::Fill(event) | Call::Evict(event) => event.mcid = mcid,
-        _ => unreachable!("fills and evictions alone"),
+    let calls = |random: &mut Random| units(random, state);
+    common::monitoring(random, setup, LAST_EVENT, calls, |call, mcid| {
+        if let Call::Fill(fill) = call {
+            fill.mcid = mcid;
+        }
     })
 }
 
-/// Puts a counter at or near one of its ends into the lent table, as a caller may.
+/// Puts a counter at or near one of its ends and a unit of its MCID into the lent tables, as a caller
+/// may.
 fn edge_of_counter(random: &mut Random, setup: &Setup) -> Steps {
     let mcid = random.below(setup.nm);
     let top = (1u64 << setup.w) - 1;
     let value = random.pick(&[0, 1, top - 1, top]) | random.below(2) << 63;
-    let counter = Change::word(2, 8, mcid as usize, value);
-    let event = Change::word(3, 2, mcid as usize, 1);
-    let mut steps = vec![Step::Change(vec![counter, event])];
+    let unit = random.below(setup.units());
+    let owned = Fill { rcid: 0, mcid, at: random.below(setup.na), unit };
+    let counter = Change::word(COUNTERS, 8, mcid as usize, value);
+    let event = Change::word(EVENTS, 2, mcid as usize, 1);
+    let owner = Change::word(OWNERS, 4, unit as usize, owner_of(&owned, setup.na) as u64);
+    let mut steps = vec![Step::Change(vec![counter, event, owner])];
     for _ in 0..random.between(1, 4) {
-        let event = Event { rcid: 0, mcid, ..any_event(random, setup) };
-        let call = if random.percent(50) { Call::Fill(event) } else { Call::Evict(event) };
-        steps.push(Step::Call(call));
+        let fill = Fill { rcid: 0, mcid, ..any_fill(random, setup) };
+        let evict = Call::Evict { unit: random.pick(&[unit, fill.unit]) };
+        steps.push(Step::Call(random.pick(&[Call::Fill(fill), evict])));
+    }
+    if random.percent(30) {
+        steps.push(Step::write(common::alloc_ctl(random, FLUSH_RCID, 0, 0)));
     }
     steps.push(Step::write((8, 8, READ_COUNTER | mcid << 8)));
     steps.push(Step::read(8, MON_CTR_VAL));

@@ -52,7 +52,17 @@ pub fn another_reset<C: Controller>(random: &mut Random, setup: &C::Setup) -> Ve
     }
 }
 
-/// RCID and AT of a request or cache event. Few RCIDs are set up, so low numbers come more often.
+/// The MCID of a request or fill; where the RCID does not exist, at times none that exists either.
+pub fn any_mcid(random: &mut Random, sizes: &impl Sizes, rcid: u64) -> u64 {
+    let both_unknown = rcid >= sizes.nr() && random.percent(25);
+    if both_unknown {
+        sizes.nm()
+    } else {
+        random.index(sizes.nm())
+    }
+}
+
+/// RCID and AT of a request or fill. Few RCIDs are set up, so low numbers come more often.
 pub fn any_pair(random: &mut Random, sizes: &impl Sizes) -> (u64, u64) {
     let nr = sizes.nr();
     let rcid = if random.percent(40) { random.below(nr.min(3)) } else { random.index(nr) };

@@ -104,18 +104,28 @@ pub mod capacity {
             3 => random.between(1, 64),
             _ => random.between(2, 16),
         };
-        Setup { ncblks, nr, na, nm, w }
+        let u = match random.below(6) {
+            0 => 1,
+            1 => random.pick(&[63, 64, 64]),
+            2 => random.between(1, 64),
+            _ => random.between(2, 5),
+        };
+        Setup { ncblks, nr, na, nm, w, u }
     }
 
     /// A set-up with one number replaced; `random.number()` may still lie in the range.
     pub fn outside(random: &mut Random) -> Setup {
         let mut setup = in_range(random);
-        match random.below(5) {
+        match random.below(6) {
             0 => setup.ncblks = beyond(random, 1, 64),
             1 => setup.nr = beyond(random, 1, 256),
             2 => setup.na = beyond(random, 1, 8),
             3 => setup.nm = beyond(random, 1, 256),
-            _ => setup.w = beyond(random, 24, 62),
+            4 => setup.w = beyond(random, 24, 62),
+            _ => {
+                let any = beyond(random, 1, 64);
+                setup.u = random.pick(&[0, 65, u64::MAX, any]);
+            }
         }
         setup
     }

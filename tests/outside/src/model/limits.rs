@@ -1,4 +1,4 @@
-//! STATUS of alloc_ctl's operations, which both controllers work out in the same order.
+//! STATUS of the operations of alloc_ctl that both controllers have, worked out in the same order.
 
 use super::registers::{AT, CONFIG_LIMIT, DONE, OP, RCID, READ_LIMIT};
 use super::Sizes;

@@ -19,9 +19,10 @@ pub const MCID: Field = Field::new(19, 8);
 pub const EVT_ID: Field = Field::new(27, 20);
 pub const ATV: Field = Field::new(28, 28);
 
-/// The operations of alloc_ctl.
+/// The operations of alloc_ctl; the last is the capacity controller's alone.
 pub const CONFIG_LIMIT: u64 = 1;
 pub const READ_LIMIT: u64 = 2;
+pub const FLUSH_RCID: u64 = 3;
 
 /// The operations of mon_ctl.
 pub const CONFIG_EVENT: u64 = 1;

@@ -1,7 +1,6 @@
 //! What a run shows of window ends that serve requests which wait.
 
-use super::super::Labels;
-use super::waiters::shown_of;
+use super::super::{shown_of, Labels};
 use crate::model::bandwidth::settings::{is_sharer, reserved, weight};
 use crate::model::bandwidth::waiters::{AT, MCID, NEED};
 use crate::model::bandwidth::{holder_of, pool_size, State, OVF};

@@ -1,6 +1,6 @@
 //! What a run shows of requests that wait: put to wait, refused, beside requests, badly formed.
 
-use super::super::{outcome, unknown, Labels};
+use super::super::{lone_fault, lone_required, outcome, shown_of, unknown, Labels};
 use crate::model::bandwidth::waiters::{AT, MCID, NEED};
 use crate::model::bandwidth::{Request, State};
 use crate::model::Sizes;
@@ -68,10 +68,6 @@ pub fn reset(before: &State) -> Labels {
     shown_of(&[(RESET, before.waiters.iter().any(|&word| word != 0))])
 }
 
-pub fn shown_of(shown: &[(&str, bool)]) -> Labels {
-    shown.iter().filter(|(_, is_shown)| *is_shown).map(|(label, _)| label.to_string()).collect()
-}
-
 const LABELS: [&str; 14] = [
     PLAIN,
     OTHER_AT,
@@ -93,37 +89,26 @@ const LABELS: [&str; 14] = [
 pub fn required() -> Labels {
     let of_need = [0, 1, 2, 3, 7].map(|number| outcome("need", number));
     let labels = LABELS.iter().map(|label| label.to_string());
-    labels.chain(of_need).chain(["refused 3 for a waiter".into()]).chain(fault_required()).collect()
+    labels
+        .chain(of_need)
+        .chain(["refused 3 for a waiter".into()])
+        .chain(lone_required("a waiter", &FAULTS))
+        .collect()
 }
 
 /// What is wrong with a word of waiters.
 const FAULTS: [&str; 4] = ["no need", "an unknown MCID", "an unknown AT", "a bit above 43"];
 
-/// What a state showed that was refused for a waiter: all that is wrong with the first such word, and
-/// whether it is the last word.
 pub fn fault(state: &State) -> Labels {
     let setup = &state.record.setup;
-    let wrong = |word: u64| {
-        let is_wrong = [
+    let wrong = |&word: &u64| {
+        [
             word != 0 && NEED.get(word) == 0,
             MCID.get(word) >= setup.nm,
             AT.get(word) >= setup.na,
             word >> 44 != 0,
-        ];
-        FAULTS.into_iter().zip(is_wrong).filter(|fault| fault.1).map(|fault| fault.0).collect()
+        ]
     };
-    let words = state.waiters.iter().enumerate();
-    let mut faults = words.map(|(rcid, &word)| (rcid, wrong(word)));
-    let first = faults.find(|(_, wrong): &(usize, Vec<&str>)| !wrong.is_empty());
-    let (rcid, wrong) = first.unwrap_or_default();
-    let place = if rcid + 1 == state.waiters.len() { ", the last word" } else { "" };
-    match wrong[..] {
-        [alone] => vec![format!("refused 3 for a waiter: {alone} alone{place}")],
-        _ => Labels::new(),
-    }
-}
-
-fn fault_required() -> Labels {
-    let of = |place| FAULTS.map(|fault| format!("refused 3 for a waiter: {fault} alone{place}"));
-    [of(""), of(", the last word")].concat()
+    let words: Vec<[bool; 4]> = state.waiters.iter().map(wrong).collect();
+    lone_fault("a waiter", FAULTS, &words)
 }

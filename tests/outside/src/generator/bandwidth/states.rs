@@ -1,37 +1,24 @@
 //! Well-formed states made directly, with many pairs set and amounts used up to their ends.
 
-use super::super::{Random, Step};
+use super::super::states::{any_alloc_ctl, any_counters, any_events, any_mon_ctl, loaded, up_to};
+use super::super::Random;
 use super::operand::any_weight;
 use super::waiters::any_waiters;
-use super::{any_call, damage, Steps};
-use crate::image::Image;
+use super::{damage, Steps};
+use crate::controller::Bandwidth;
 use crate::model::bandwidth::settings::{reserved, MWEIGHT, RBWB, SHARED_AT, USE_SHARED};
-use crate::model::bandwidth::{pool_size, Record, Setup, State};
-use crate::model::registers::held_at;
+use crate::model::bandwidth::{pool_size, Record, Setup, State, LAST_EVENT};
 use crate::model::{Checked, Sizes};
 
 /// Lends such a state, makes calls on it, and often damages it by one word, a weight most of all.
-pub fn loaded(random: &mut Random, setup: &Setup) -> Steps {
+pub fn any_loaded(random: &mut Random, setup: &Setup) -> Steps {
     let state = any_state(random, setup);
-    let contents = state.bytes();
-    let mut steps = vec![Step::Lend { contents, skew: random.below(8) as usize }];
     let lengths = State::lengths(setup);
-    for _ in 0..random.between(2, 8) {
-        let call = any_call(random, setup);
-        let change = match random.below(10) {
-            0..=2 => Some(damage::damage(random, &state, &lengths)),
-            3..=6 => Some(damage::weight(random, &state)),
-            _ => None,
-        };
-        steps.push(match change {
-            Some(change) => Step::Damaged { changes: vec![change], call },
-            None => Step::Call(call),
-        });
-    }
-    if random.percent(70) {
-        steps.push(Step::Call(super::Call::Reset(*setup)));
-    }
-    steps
+    loaded::<Bandwidth>(random, &state, |random| match random.below(10) {
+        0..=2 => Some(damage::damage(random, &state, &lengths)),
+        3..=6 => Some(damage::weight(random, &state)),
+        _ => None,
+    })
 }
 
 fn any_state(random: &mut Random, setup: &Setup) -> State {
@@ -47,39 +34,10 @@ fn any_state(random: &mut Random, setup: &Setup) -> State {
     };
     let used = active.iter().map(|&word| up_to(random, reserved(word) * setup.q) as u32).collect();
     let configured = any_settings(random, setup);
-    let counters =
-        (0..setup.nm).map(|_| up_to(random, (1 << setup.w) - 1) | random.below(4) << 62).collect();
-    let events = (0..setup.nm).map(|_| any_event(random, setup.na)).collect();
+    let counters = any_counters(random, setup, 3 << 62);
+    let events = any_events(random, setup, LAST_EVENT);
     let waiters = any_waiters(random, setup, &configured);
     State { record, active, configured, used, counters, events, waiters }
-}
-
-/// 0, the limit, or any number between.
-fn up_to(random: &mut Random, limit: u64) -> u64 {
-    match random.below(3) {
-        0 => 0,
-        1 => limit,
-        _ => random.between(0, limit),
-    }
-}
-
-fn any_alloc_ctl(random: &mut Random, na: u64) -> u64 {
-    let at = held_at(random.below(8), na) << 5;
-    random.next() & 0x7F_000F_FF1F | at
-}
-
-fn any_mon_ctl(random: &mut Random, na: u64) -> u64 {
-    let at = held_at(random.below(8), na) << 5;
-    let atv = held_at(random.below(2), na) << 28;
-    random.next() & 0x7F_0FFF_FF1F | at | atv
-}
-
-fn any_event(random: &mut Random, na: u64) -> u16 {
-    let event = random.below(4);
-    if event == 0 || na == 1 || random.percent(50) {
-        return event as u16;
-    }
-    (event | random.below(na) << 8 | 1 << 11) as u16
 }
 
 /// Holders with blocks that together may reach MRBWB, those of an RCID with one weight, and sharers.

@@ -2,9 +2,8 @@
 //! needs, requests and other settings.
 
 use super::operand::{holders_of, modest_operand};
-use super::plan::Plan;
 use super::{any_request, configuration, likely_request, Steps};
-use crate::generator::{Random, Step};
+use crate::generator::{planned, Random, Step};
 use crate::model::bandwidth::settings::{reserved, weight};
 use crate::model::bandwidth::waiters::{word_of, NEED};
 use crate::model::bandwidth::{holder_of, pool_size, Call, Request, Setup, State};
@@ -35,12 +34,7 @@ pub fn any_waiters(random: &mut Random, setup: &Setup, configured: &[u32]) -> Ve
 }
 
 pub fn waiters(random: &mut Random, state: &State) -> Steps {
-    let mut plan = Plan::new(state);
-    for _ in 0..random.between(2, 8) {
-        let steps = next(random, &plan.state);
-        plan.add(steps);
-    }
-    plan.steps
+    planned(random, state, next)
 }
 
 fn next(random: &mut Random, state: &State) -> Steps {

@@ -2,19 +2,13 @@
 //! window ends.
 
 use super::operand::{holders_of, modest_operand};
-use super::plan::Plan;
 use super::{any_request, configuration, likely_request, reading_back, Steps};
-use crate::generator::{Random, Step};
+use crate::generator::{planned, Random, Step};
 use crate::model::bandwidth::{Call, Request, State};
 
 pub fn weights(random: &mut Random, state: &State) -> Steps {
     let rcid = any_rcid(random, state);
-    let mut plan = Plan::new(state);
-    for _ in 0..random.between(2, 8) {
-        let steps = next(random, &plan.state, rcid);
-        plan.add(steps);
-    }
-    plan.steps
+    planned(random, state, |random, state| next(random, state, rcid))
 }
 
 /// Mostly the RCID with the most holders.

@@ -1,8 +1,9 @@
 //! The refusals of the capacity controller, in checking order.
 
-use super::event::CTR;
 use super::limits::all_blocks;
-use super::{Call, Record, Setup, State, LAST_EVENT};
+use super::owners::owner_well_formed;
+use super::units::CTR;
+use super::{Call, Fill, Record, Setup, State, LAST_EVENT};
 use crate::model::check::Checked;
 use crate::model::monitor::monitor_fault;
 use crate::model::registers::{alloc_ctl_well_formed, mon_ctl_well_formed};
@@ -11,21 +12,21 @@ use crate::model::Sizes;
 impl Checked for State {
     type Call = Call;
 
-    /// 9 words.
-    const RECORD_LENGTH: usize = 72;
+    /// 10 words.
+    const RECORD_LENGTH: usize = 80;
 
     fn setup(&self) -> &Setup {
         &self.record.setup
     }
 
     fn in_range(setup: &Setup) -> bool {
-        setup.sizes_in_range() && (1..=64).contains(&setup.ncblks)
+        setup.sizes_in_range() && (1..=64).contains(&setup.ncblks) && (1..=64).contains(&setup.u)
     }
 
-    /// The lengths of masks, counters and events in bytes.
+    /// The lengths of masks, counters, events and owners in bytes.
     fn table_lengths(setup: &Setup) -> Vec<usize> {
         let nm = setup.nm as usize;
-        vec![8 * setup.pairs(), 8 * nm, 2 * nm]
+        vec![8 * setup.pairs(), 8 * nm, 2 * nm, 4 * setup.units() as usize]
     }
 
     /// A mask of 0 is a pair that was never set.
@@ -36,6 +37,8 @@ impl Checked for State {
             Some("a register")
         } else if self.masks.iter().any(|&mask| mask & !blocks != 0) {
             Some("a mask")
+        } else if !self.owners.iter().all(|&word| owner_well_formed(setup, word)) {
+            Some("an owner")
         } else {
             monitor_fault(setup, LAST_EVENT, CTR, &self.counters, &self.events)
         }
@@ -44,8 +47,8 @@ impl Checked for State {
     fn own_refusal(&self, call: &Call) -> u64 {
         let setup = &self.record.setup;
         match call {
-            Call::Fill(e) | Call::Evict(e) if e.rcid >= setup.nr || e.mcid >= setup.nm => 7,
-            Call::Fill(e) | Call::Evict(e) if e.block >= setup.ncblks => 8,
+            Call::Fill(fill) if fill.rcid >= setup.nr || fill.mcid >= setup.nm => 7,
+            Call::Fill(Fill { unit, .. }) | Call::Evict { unit } if *unit >= setup.units() => 8,
             _ => 0,
         }
     }

@@ -1,11 +1,12 @@
 //! The capacity controller: set-up, state, calls, and one call's effect.
 
 mod check;
-mod event;
 mod limits;
+pub mod owners;
+mod units;
 
-pub use event::{counted, CTR, INVALID};
 pub use limits::{all_blocks, alloc_status, first_masks};
+pub use units::{counted, CTR, INVALID};
 
 use super::access::{write_part, Part};
 use super::monitor::Monitor;
@@ -14,6 +15,15 @@ use super::{Answer, Performs};
 
 /// Capacity events: 0 none, 1 occupancy.
 pub const LAST_EVENT: u64 = 1;
+
+/// The lent slices by number, in the order of the C interface.
+pub mod slices {
+    pub const RECORD: usize = 0;
+    pub const MASKS: usize = 1;
+    pub const COUNTERS: usize = 2;
+    pub const EVENTS: usize = 3;
+    pub const OWNERS: usize = 4;
+}
 
 /// The numbers that a reset is given.
 #[derive(Clone, Copy, Debug, PartialEq, Eq, Default)]
@@ -24,9 +34,22 @@ pub struct Setup {
     pub nm: u64,
     /// The width of a counter in bits.
     pub w: u64,
+    /// The units of a block.
+    pub u: u64,
 }
 
 super::sizes::common!(Setup, Call);
+
+impl Setup {
+    /// The number of units.
+    pub fn units(&self) -> u64 {
+        self.ncblks * self.u
+    }
+
+    pub fn block_of(&self, unit: u64) -> u64 {
+        unit / self.u
+    }
+}
 
 /// The controller's record.
 #[derive(Clone, Copy, Debug, PartialEq, Eq, Default)]
@@ -45,43 +68,37 @@ pub struct State {
     pub masks: Vec<u64>,
     pub counters: Vec<u64>,
     pub events: Vec<u16>,
+    /// The owner of each unit.
+    pub owners: Vec<u32>,
 }
 
-/// One call with its arguments.
+/// One call with its arguments. Evict is the paper's emptying (rule E3).
 #[derive(Clone, Debug, PartialEq, Eq)]
 pub enum Call {
     Reset(Setup),
-    Read {
-        size: u64,
-        offset: u64,
-    },
-    Write {
-        size: u64,
-        offset: u64,
-        value: u64,
-    },
-    Fill(Event),
-    /// An eviction (rule E3, "emptying" in the paper).
-    Evict(Event),
+    Read { size: u64, offset: u64 },
+    Write { size: u64, offset: u64, value: u64 },
+    Fill(Fill),
+    Evict { unit: u64 },
 }
 
-/// The arguments of a cache event.
 #[derive(Clone, Copy, Debug, PartialEq, Eq)]
-pub struct Event {
+pub struct Fill {
     pub rcid: u64,
     pub mcid: u64,
     pub at: u64,
-    pub block: u64,
+    pub unit: u64,
 }
 
 impl Performs for State {
-    /// RCID 0 has every block for each AT; all else is 0.
+    /// RCID 0 has every block for each AT; all else is 0, and every unit free.
     fn after_reset(setup: &Setup) -> State {
         State {
             record: Record { setup: *setup, ..Record::default() },
             masks: first_masks(setup),
             counters: vec![0; setup.nm as usize],
             events: vec![0; setup.nm as usize],
+            owners: vec![0; setup.units() as usize],
         }
     }
 
@@ -109,15 +126,15 @@ impl Performs for State {
 
     fn own(&mut self, call: &Call) -> Answer {
         match call {
-            Call::Fill(event) => return Answer::value(event::fill(self, event)),
-            Call::Evict(event) => event::evict(self, event),
+            Call::Fill(fill) => return Answer::value(units::fill(self, fill)),
+            Call::Evict { unit } => units::evict(self, *unit),
             _ => {}
         }
         Answer::default()
     }
 }
 
-/// VER 7:0, NCBLKS 23:8; FRCID, bit 24, is 0.
+/// VER 7:0, NCBLKS 23:8; FRCID, bit 24, is 1.
 fn capabilities(setup: &Setup) -> u64 {
-    VERSION | setup.ncblks << 8
+    VERSION | setup.ncblks << 8 | 1 << 24
 }
