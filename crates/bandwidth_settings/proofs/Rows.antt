@@ -9,14 +9,17 @@ use lib.Dec.{T, leb, eqb, nleb→lt}
 use lib.ListN.{length, getD, set}
 use Rattle.tables.specs.Below.{anyBelow, sumOf}
 use Rattle.tables.specs.Parts.{part, withPart, RowAt}
-use Rattle.tables.proofs.Tests.{cases}
+use Rattle.tables.proofs.Tests.{cases, not-in, is-false}
 use Rattle.tables.proofs.Laws.{sum-le}
 use Rattle.tables.proofs.Parts.{part-at, part-same, part-set}
 use Rattle.access.specs.Checks.{_gives_, first}
 use Rattle.access.specs.Pairs.{pair, wordAt}
 use Rattle.allocation.specs.Allocation.{opOf, rcidOf, atOf, invalidOp, performs, operationStatus, succeeds, tableAfter, operandAfter}
+use Rattle.codes.specs.Codes.{_has_, noCode, allocOps}
+use Rattle.codes.specs.declared.Resource.the-variants.{Bandwidth}
 use Rattle.codes.specs.declared.AllocOp.{AllocOp}
-use Rattle.codes.specs.declared.AllocOp.the-variants.{ConfigLimit, ReadLimit}
+use Rattle.codes.specs.declared.AllocOp.the-variants.{ConfigLimit, ReadLimit, FlushRcid}
+use Rattle.codes.proofs.Rows.{first-le, le-last}
 use Rattle.allocation.proofs.Operations.{done-pair}
 use Rattle.bandwidth_model.specs.Rules.{Setup, pairs, sharedAtOf, isHolder, storedForm, reserved, total, badHolder, shares, badSharer, badOperand, badLimit, limitOf, settledRow, settled, configuredAfter, bwAfter}
 use Rattle.bandwidth_model.specs.Model.{Allocation, writeAlloc}
@@ -86,14 +89,18 @@ module _ {su : Setup} {table : List ℕ} {sum rcid from to : ℕ} (r : Ready su 
 
 -- ---- the operations
 
+no-flush : (v : ℕ) → performs Bandwidth FlushRcid v ≡ false
+unfolding performs allocOps
+no-flush v = is-false (noCode has opOf v) (not-in (noCode has opOf v) (λ t. omega (arith, first-le noCode (opOf v) t, le-last noCode (opOf v) t)))
+
 -- a bad operand counts only where the pair is there
-status-by : (nr na v : ℕ) (x y : Bool) → (rcidOf v < nr → atOf na v < na → x ≡ y) → operationStatus nr na x v ≡ operationStatus nr na y v
+status-by : (nr na v : ℕ) (x y : Bool) → (rcidOf v < nr → atOf na v < na → x ≡ y) → operationStatus Bandwidth nr na x v ≡ operationStatus Bandwidth nr na y v
 unfolding operationStatus
-status-by nr na v x y h = by (invalidOp (opOf v)) (leb nr (rcidOf v)) (leb na (atOf na v)) (nleb→lt nr (rcidOf v)) (nleb→lt na (atOf na v))
+status-by nr na v x y h = rw (no-flush v) (by (invalidOp Bandwidth (opOf v)) (leb nr (rcidOf v)) (leb na (atOf na v)) (nleb→lt nr (rcidOf v)) (nleb→lt na (atOf na v)))
   where
     by : (invalid high over : Bool) → (T (not high) → rcidOf v < nr) → (T (not over) → atOf na v < na)
-        → first ((invalid gives 2) ∷ (high gives 3) ∷ (over gives 4) ∷ ((performs ConfigLimit v && x) gives 5) ∷ []) 1
-        ≡ first ((invalid gives 2) ∷ (high gives 3) ∷ (over gives 4) ∷ ((performs ConfigLimit v && y) gives 5) ∷ []) 1
+        → first ((invalid gives 2) ∷ (high gives 3) ∷ (over gives 4) ∷ ((performs Bandwidth ConfigLimit v && x) gives 5) ∷ []) 1
+        ≡ first ((invalid gives 2) ∷ (high gives 3) ∷ (over gives 4) ∷ ((performs Bandwidth ConfigLimit v && y) gives 5) ∷ []) 1
     by invalid true over f g = refl
     by invalid false true f g = refl
     by invalid false false f g = rw (h (f tt) (g tt)) refl
@@ -120,27 +127,27 @@ module _ {su : Setup} {table : List ℕ} {sum : ℕ} (r : Ready su table sum) wh
     abbrev bad : Bool
     bad = badOperandIn su sum named (atOf (su .na) v) bw
 
-    status-same : operationStatus (su .nr) (su .na) bad v ≡ operationStatus (su .nr) (su .na) (badLimit su table bw v) v
+    status-same : operationStatus Bandwidth (su .nr) (su .na) bad v ≡ operationStatus Bandwidth (su .nr) (su .na) (badLimit su table bw v) v
     unfolding badLimit
     status-same = status-by (su .nr) (su .na) v bad (badLimit su table bw v) (λ hr ha. row-operand r w hr (atOf (su .na) v) bw ha)
 
-    done-same : (op : AllocOp) → succeeds (su .nr) (su .na) bad op v ≡ succeeds (su .nr) (su .na) (badLimit su table bw v) op v
+    done-same : (op : AllocOp) → succeeds Bandwidth (su .nr) (su .na) bad op v ≡ succeeds Bandwidth (su .nr) (su .na) (badLimit su table bw v) op v
     unfolding succeeds
     done-same op = rw status-same refl
 
     -- READ_LIMIT copies the table's word
-    read-same : cond (succeeds (su .nr) (su .na) bad ReadLimit v) (getD named (atOf (su .na) v) 0) bw ≡ bwAfter su table bw v
+    read-same : cond (succeeds Bandwidth (su .nr) (su .na) bad ReadLimit v) (getD named (atOf (su .na) v) 0) bw ≡ bwAfter su table bw v
     unfolding operandAfter
     read-same = rw (done-same ReadLimit)
-        (cases (λ d. cond d (getD named (atOf (su .na) v) 0) bw ≡ cond d (wordAt (su .na) table (rcidOf v) (atOf (su .na) v)) bw) (succeeds (su .nr) (su .na) (badLimit su table bw v) ReadLimit v)
-        (λ t. let p = done-pair (su .nr) (su .na) (badLimit su table bw v) v ReadLimit t in row-word w (p .rcid-low) table (atOf (su .na) v) (p .at-low)) (λ n. refl))
+        (cases (λ d. cond d (getD named (atOf (su .na) v) 0) bw ≡ cond d (wordAt (su .na) table (rcidOf v) (atOf (su .na) v)) bw) (succeeds Bandwidth (su .nr) (su .na) (badLimit su table bw v) ReadLimit v)
+        (λ t. let p = done-pair Bandwidth (su .nr) (su .na) (badLimit su table bw v) v ReadLimit t tt in row-word w (p .rcid-low) table (atOf (su .na) v) (p .at-low)) (λ n. refl))
 
     -- CONFIG_LIMIT settles the table's row
-    table-same : withPart from (to - from) table (tableAfter (su .nr) (su .na) bad named (settledRow named (atOf (su .na) v) (storedForm bw)) v) ≡ configuredAfter su table bw v
+    table-same : withPart from (to - from) table (tableAfter Bandwidth (su .nr) (su .na) bad named (settledRow named (atOf (su .na) v) (storedForm bw)) v) ≡ configuredAfter su table bw v
     unfolding tableAfter settled
     table-same = rw (done-same ConfigLimit)
-        (cases (λ d. withPart from (to - from) table (cond d (settledRow named (atOf (su .na) v) (storedForm bw)) named) ≡ cond d (settled su table (limitOf su bw v)) table) (succeeds (su .nr) (su .na) (badLimit su table bw v) ConfigLimit v)
-        (λ t. let p = done-pair (su .nr) (su .na) (badLimit su table bw v) v ConfigLimit t in rw (w .long (p .rcid-low), w .from-is (p .rcid-low)) refl) (λ n. part-same table from (to - from)))
+        (cases (λ d. withPart from (to - from) table (cond d (settledRow named (atOf (su .na) v) (storedForm bw)) named) ≡ cond d (settled su table (limitOf su bw v)) table) (succeeds Bandwidth (su .nr) (su .na) (badLimit su table bw v) ConfigLimit v)
+        (λ t. let p = done-pair Bandwidth (su .nr) (su .na) (badLimit su table bw v) v ConfigLimit t tt in rw (w .long (p .rcid-low), w .from-is (p .rcid-low)) refl) (λ n. part-same table from (to - from)))
 
     -- the write to alloc_ctl by the row
     pub row-write : {ctl left-bw : ℕ} {left : List ℕ} → allocation ctl left-bw left ≡ writeRow su sum bw named v

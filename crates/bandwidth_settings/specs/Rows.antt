@@ -6,6 +6,7 @@ use Rattle.tables.specs.Notation.{if_then_else_, _==_, _≤?_, _<?_, _‼_}
 use Rattle.tables.specs.Below.{anyBelow}
 use Rattle.fields.specs.Registers as reg
 use Rattle.allocation.specs.Allocation.{atOf, allocWord, operationStatus, succeeds, tableAfter}
+use Rattle.codes.specs.declared.Resource.the-variants.{Bandwidth}
 use Rattle.codes.specs.declared.AllocOp.the-variants.{ReadLimit}
 use Rattle.bandwidth_model.specs.Rules.{Setup, rbwbOf, sharedAtOf, useSharedOf, storedForm, isHolder, isSharer, reserved, settledRow}
 use Rattle.bandwidth_model.specs.View.{Ranges}
@@ -37,9 +38,9 @@ writeRow su sum bw row v =
     let at = atOf (su .na) v in
     let bad = badOperandIn su sum row at bw in
     record {
-      ctl = allocWord (su .na) v reg.idle (operationStatus (su .nr) (su .na) bad v);
-      bw = if succeeds (su .nr) (su .na) bad ReadLimit v then row ‼ at else bw;
-      configured = tableAfter (su .nr) (su .na) bad row (settledRow row at (storedForm bw)) v;
+      ctl = allocWord (su .na) v reg.idle (operationStatus Bandwidth (su .nr) (su .na) bad v);
+      bw = if succeeds Bandwidth (su .nr) (su .na) bad ReadLimit v then row ‼ at else bw;
+      configured = tableAfter Bandwidth (su .nr) (su .na) bad row (settledRow row at (storedForm bw)) v;
     }
 
 -- a set-up in range, and a sum of 2048 words of 65535 blocks at most

@@ -8,6 +8,7 @@ use allocation::control_ok;
 use allocation::effect_of;
 use allocation::held_fields;
 use bandwidth_setup::Setup;
+use codes::Resource;
 use fields::BwAlloc;
 use tables::Row;
 use tables::pick;
@@ -148,10 +149,10 @@ pub fn write_row(setup: Setup, row: &mut [u32], reserved: u64, bw: u64, v: u64) 
 {
     let f = held_fields(setup.na, v);
     let bad = bad_operand(setup, row, reserved, f.at, bw);
-    let status = alloc_status(setup.nr, setup.na, bad, v);
+    let status = alloc_status(Resource::Bandwidth, setup.nr, setup.na, bad, v);
     let at = f.at as usize;
     let old = word32(row, at) as u64;
-    let effect = effect_of(f.op, status);
+    let effect = effect_of(Resource::Bandwidth, f.op, status);
     settle_row(effect.sets, row, at, stored_word(bw));
     Written {
         ctl: alloc_word(f, status),

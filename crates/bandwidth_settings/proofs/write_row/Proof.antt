@@ -8,6 +8,7 @@ use borrow.Author.Needs.{needs}
 use Rattle.fields.specs.Layout.{pack}
 use Rattle.fields.specs.Registers.{allocCtl}
 use Rattle.fields.specs.declared.AllocCtl.{AllocCtl}
+use Rattle.codes.specs.declared.Resource.the-variants.{Bandwidth}
 use Rattle.allocation.specs.Allocation.{allocWord, performs, operationStatus, succeeds, tableAfter}
 use Rattle.allocation.specs.View.{AllocFields, EffectOf}
 use Rattle.allocation.specs.declared.Effect.{Effect}
@@ -19,7 +20,7 @@ use Rattle.bandwidth_settings.proofs.write_row.Tie as tie
 
 -- the write over what the callees give
 steps : (su : Setup) (sum bw v st old word ctl new : ℕ) (row left : List ℕ) (bad : Bool) (effect : Effect) (f : AllocCtl) → AllocFields (su .na) v f → bad ≡ badOperandIn su sum row (f .at) bw
-    → st ≡ operationStatus (su .nr) (su .na) bad v → EffectOf (f .op) st effect → old ≡ getD row (f .at) 0 → word ≡ storedForm bw → left ≡ cond (effect .sets) (settledRow row (f .at) word) row
+    → st ≡ operationStatus Bandwidth (su .nr) (su .na) bad v → EffectOf Bandwidth (f .op) st effect → old ≡ getD row (f .at) 0 → word ≡ storedForm bw → left ≡ cond (effect .sets) (settledRow row (f .at) word) row
     → ctl ≡ pack allocCtl (0 ∷ st ∷ f .rcid ∷ f .at ∷ f .op ∷ []) → new ≡ cond (effect .reads) old bw
     → allocation ctl new left ≡ writeRow su sum bw row v
 unfolding writeRow allocWord tableAfter succeeds performs

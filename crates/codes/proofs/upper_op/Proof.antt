@@ -1,7 +1,7 @@
 -- `codes::upper_op` meets its contract.
 use native.Mathlib.Omega.{arith}
 use borrow.Author.Needs.{needs}
-use Rattle.codes.specs.Codes.{_to_, allocOps}
+use Rattle.codes.specs.Codes.{allocOps}
 use Rattle.codes.proofs.Rows.{has-in}
 use Rattle.codes.proofs.upper_op.Statement.{statement}
 use Rattle.codes.proofs.upper_op.Tie as tie
@@ -12,6 +12,6 @@ upper-op-spec =
     tie.close
     (tie.spec
     (λ c. search needs) (λ c. search needs)
-    (λ c. rw (c .enum-told .given .1) (has-in (3 to 23) _ (omega arith) (omega arith)))
-    (λ c. rw (c .before .enum-told2 .given .1) (has-in (3 to 3) _ (omega arith) (omega arith)))
-    (λ c. rw (c .before .enum-told2 .given .1) (has-in (4 to 23) _ (omega arith) (omega arith))))
+    (λ c. rw (c .enum-told .given .1) (has-in _ _ (omega arith) (omega arith)))
+    (λ c. rw (c .before .enum-told2 .given .1) (has-in _ _ (omega arith) (omega arith)))
+    (λ c. rw (c .before .enum-told2 .given .1) (has-in _ _ (omega arith) (omega arith))))
