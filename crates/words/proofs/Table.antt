@@ -7,7 +7,7 @@ use native.Mathlib.Omega.{arith}
 use lib.ListN.{length, take, drop, getD, set, replicate, replicate-append-replicate, length-append, length-drop, take-append-drop, drop-of-length-le}
 use lib.Seq.{length-take-le, drop-drop, take-at, drop-at, set-split, drop-cons}
 use Rattle.words.specs.Words.{wordOf, bytesOf, wordsOf, bytesOfAll, stored, Below}
-use Rattle.words.proofs.Word.{length-bytes, stored-at, bytes-word, word-below}
+use Rattle.words.proofs.Word.{length-bytes, stored-at, stored-after, bytes-word, word-bytes, word-below}
 
 -- ---- lengths
 
@@ -54,6 +54,21 @@ pub set-bytes : (k i v : ℕ) (ws : List ℕ) → i < length ws → bytesOfAll k
 unfolding bytesOfAll
 set-bytes k i v ws h =
     rw (set-split ws i v h, all-append, all-split k i ws h, stored-at k (i * k) v _ _ (length-before k i ws h), drop-at _ _ k (length-bytes k (getD ws i 0)), append-assoc)
+
+-- the words of bytes with a word stored at i
+pub words-stored : (k n i v : ℕ) (bs : List ℕ) → i < n → n * k ≤ length bs → v < 256 ^ k → wordsOf k n (stored k bs (i * k) v) ≡ set (wordsOf k n bs) i v
+unfolding wordsOf
+words-stored k zero i v bs l h f = absurd (omega arith)
+words-stored k (suc n) zero v bs l h f =
+    let e : stored k bs (0 * k) v ≡ bytesOf k v ++ drop k bs = rw zero-mul (stored-at k 0 v [] bs refl) in
+    let b = length-bytes k v in
+    rw (e, take-at (bytesOf k v) (drop k bs) k b, drop-at (bytesOf k v) (drop k bs) k b, word-bytes k v f)
+words-stored k (suc n) (suc i) v bs l h f =
+    let first : length (take k bs) ≡ k = length-take-le k bs (omega (arith, suc-mul n k)) in
+    let rest : n * k ≤ length (drop k bs) = rw length-drop (omega (arith, suc-mul n k)) in
+    let e : stored k bs (suc i * k) v ≡ take k bs ++ stored k (drop k bs) (i * k) v =
+    ap (λ (xs : List ℕ). stored k xs (suc i * k) v) (sym (take-append-drop k bs)) ∙ rw (suc-mul, add-comm (i * k)) (stored-after k k (i * k) v (take k bs) (drop k bs) first) in
+    rw (e, take-at (take k bs) (stored k (drop k bs) (i * k) v) k first, drop-at (take k bs) (stored k (drop k bs) (i * k) v) k first, words-stored k n i v (drop k bs) (omega arith) rest f)
 
 -- ---- words that are 0
 
