@@ -2,12 +2,12 @@
 use mathlib.Core.Path.{_≡_, refl, sym, ap, subst, _∙_}
 use mathlib.Core.Bool.{Bool, true, false, not, cond}
 use mathlib.Core.List.{List, [], _∷_}
-use Prim.Native.Nat.{ℕ, _<_}
+use Prim.Native.Nat.{ℕ, _^_, _<_}
 use lib.Dec.{T, lit<}
-use lib.ListN.{getD, set}
-use Rattle.words.specs.Words.{wordsOf, bytesOfAll, withWord, tableOf}
+use lib.ListN.{getD}
+use Rattle.words.specs.Words.{wordsOf, bytesOfAll, withWord, tableOf, Holds}
 use Rattle.words.proofs.Held as words
-use Rattle.words.proofs.Held.{put-held}
+use Rattle.words.proofs.Held.{put-held, held-put}
 use Rattle.words.proofs.Parts.{table-held}
 use Rattle.access.specs.Checks.{first}
 use Rattle.access.specs.declared.Ack.{Ack}
@@ -15,19 +15,24 @@ use Rattle.access.specs.declared.Ack.the-variants as ack
 use Rattle.access.specs.declared.Refusal.the-variants as why
 use Rattle.replies.specs.Replies.{reply, refusal}
 use Rattle.replies.proofs.Laws as laws
+use Rattle.allocation.specs.Allocation.{rcidOf}
 use Rattle.monitor.specs.Monitor.{mcidOf}
+use Rattle.monitor.specs.Occupancy.{evicted}
+use Rattle.units.specs.Owners.{flushedOwners}
+use Rattle.units.specs.Counts.{flushed}
 use Rattle.capacity_masks.specs.View.{setupOf}
-use Rattle.capacity_model.specs.Rules.{Setup, pairs}
+use Rattle.capacity_masks.specs.Words.{pairOf}
+use Rattle.capacity_model.specs.Rules.{Setup, pairs, unitCount}
 use Rattle.capacity_model.specs.Calls.{Call, reset, read, write, fill, evict, Answer, refused, done, value, allowed}
 use Rattle.capacity_model.specs.Claim.{isReset}
 use Rattle.capacity_model.specs.View.{Ranges, Sized}
-use Rattle.capacity_model.specs.Model.{State, Outcome, wellFormed, stateChecks, step}
+use Rattle.capacity_model.specs.Model.{State, Outcome, withUnits, wellFormed, stateChecks, step}
 use Rattle.capacity_model.proofs.Setup.{ranges}
 use Rattle.capacity_model.proofs.Steps.{accepting}
 use Rattle.capacity.specs.declared.Record.{Record}
 use Rattle.capacity.specs.declared.WriteWords.{WriteWords}
-use Rattle.capacity.specs.View.{state, outcome, ackOf}
-use Rattle.capacity.specs.Checked.{pairOf, wrote}
+use Rattle.capacity.specs.View.{outcome, ackOf}
+use Rattle.capacity.specs.Checked.{wrote}
 use Rattle.capacity.proofs.Checks.{setup-passes, state-tested}
 use Rattle.capacity.proofs.Calls.{call-failed}
 use Rattle.capacity_bytes.specs.Bytes.{Lent, lent, stateOf, lentOf, Reply, pointers, replyTo, setupFor, byteRefusal, stepBytes}
@@ -42,8 +47,8 @@ unfolding setupFor
 by-record l (reset su) t = absurd t
 by-record l (read size offset) t = refl
 by-record l (write size offset v) t = refl
-by-record l (fill rcid mcid at block) t = refl
-by-record l (evict rcid mcid at block) t = refl
+by-record l (fill rcid mcid at unit) t = refl
+by-record l (evict unit) t = refl
 
 -- ---- refused by checks 1 and 2
 
@@ -60,7 +65,7 @@ module _ (l : Lent) (r : Record) (same : stateIn l r ≡ stateOf l) (z : byteRef
       laws.step-taken step pointers replyTo (λ k d. byteRefusal (setupFor k d) k) stateOf l c p (ap (λ (su : Setup). byteRefusal su l) (by-record l c t) ∙ z)
       (laws.answered step pointers replyTo l (stateOf l) c o (e ∙ ap (λ (s : State). step s c) same) p q)
 
-module _ (l : Lent) (r : Record) (w : wordsIn r ≡ wordsOf 8 9 (l .«record»)) (z : byteRefusal (stateOf l .setup) l ≡ 0) where
+module _ (l : Lent) (r : Record) (w : wordsIn r ≡ wordsOf 8 10 (l .«record»)) (z : byteRefusal (stateOf l .setup) l ≡ 0) where
   abbrev su : Setup
   su = setupOf (r .setup)
 
@@ -74,7 +79,7 @@ module _ (l : Lent) (r : Record) (w : wordsIn r ≡ wordsOf 8 9 (l .«record»))
   pub held-ranges : Ranges su
   held-ranges = ranges su (in-range su l held-none)
 
-  pub held-sized : Sized su (tableOf 8 (l .masks)) (tableOf 8 (l .counters)) (tableOf 2 (l .events))
+  pub held-sized : Sized su (tableOf 8 (l .masks)) (tableOf 8 (l .counters)) (tableOf 2 (l .events)) (tableOf 4 (l .owners))
   held-sized = words-sized su l held-none
 
   -- check 3
@@ -87,14 +92,15 @@ module _ (l : Lent) (r : Record) (w : wordsIn r ≡ wordsOf 8 9 (l .«record»))
         taken l r state-held z c t (outcome (refused 3) (stateIn l r)) (call-failed (stateIn l r) c t why.State (ap (λ (x : Bool). cond x 0 3) (sym e) ∙ tested)) (refusal 3 (pointers c) l) refl
 
     pub tested-passed : b ≡ true → ((i : ℕ) → getD (l .«record») i 0 < 256) → ((i : ℕ) → getD (l .masks) i 0 < 256) → ((i : ℕ) → getD (l .counters) i 0 < 256)
-        → ((i : ℕ) → getD (l .events) i 0 < 256) → HeldIn l r
-    tested-passed e lr lm lc le =
+        → ((i : ℕ) → getD (l .events) i 0 < 256) → ((i : ℕ) → getD (l .owners) i 0 < 256) → HeldIn l r
+    tested-passed e lr lm lc le lo =
         let g = long su l held-none in
         record {
           record-held = words.held 8 (lit< tt) (l .«record») (wordsIn r) (wordsIn r) (sym (g .record-long)) lr w;
           masks-held = table-held 8 (pairs su) (l .masks) (lit< tt) (g .masks-long) lm;
           counters-held = table-held 8 (su .nm) (l .counters) (lit< tt) (g .counters-long) lc;
           events-held = table-held 2 (su .nm) (l .events) (lit< tt) (g .events-long) le;
+          owners-held = table-held 4 (unitCount su) (l .owners) (lit< tt) (g .owners-long) lo;
           state-is = state-held;
           none = z;
           passed = ap (λ (x : Bool). cond x 0 3) (sym e) ∙ tested;
@@ -105,7 +111,7 @@ module _ (l : Lent) (r : Record) (w : wordsIn r ≡ wordsOf 8 9 (l .«record»))
 module _ {l : Lent} {r : Record} (h : HeldIn l r) where
   same-bytes : lentOf (stateIn l r) ≡ l
   unfolding lentOf
-  same-bytes = rw (← h .record-held .bytes-are, ← h .masks-held .bytes-are, ← h .counters-held .bytes-are, ← h .events-held .bytes-are) refl
+  same-bytes = rw (← h .record-held .bytes-are, ← h .masks-held .bytes-are, ← h .counters-held .bytes-are, ← h .events-held .bytes-are, ← h .owners-held .bytes-are) refl
 
   module _ (c : Call) (t : T (not (isReset c))) where
     refused-keeps : (n : ℕ) (s : State) → outcome (refused n) s ≡ step (stateIn l r) c → s ≡ stateIn l r
@@ -127,30 +133,24 @@ module _ {l : Lent} {r : Record} (h : HeldIn l r) where
   pub read-bytes : l ≡ lentOf (stateIn l r)
   read-bytes = sym same-bytes
 
-  -- a cache event stores a counter
-  pub counter-bytes : (mcid counter : ℕ) (N : List ℕ) → N ≡ withWord 8 (l .counters) mcid counter
-      → lent (l .«record») (l .masks) N (l .events) ≡ lentOf (state r (tableOf 8 (l .masks)) (set (tableOf 8 (l .counters)) mcid counter) (tableOf 2 (l .events)))
+  -- a cache event stores counters and owners
+  pub unit-bytes : (owners counters N O : List ℕ) → N ≡ bytesOfAll 8 counters → O ≡ bytesOfAll 4 owners
+      → lent (l .«record») (l .masks) N (l .events) O ≡ lentOf (withUnits (stateIn l r) owners counters)
   unfolding lentOf
-  counter-bytes mcid counter N q =
-      rw (q, put-held 8 (lit< tt) mcid counter (l .counters) (tableOf 8 (l .counters)) (h .counters-held), ← h .record-held .bytes-are, ← h .masks-held .bytes-are, ← h .events-held .bytes-are) refl
+  unit-bytes owners counters N O q p = rw (q, p, ← h .record-held .bytes-are, ← h .masks-held .bytes-are, ← h .events-held .bytes-are) refl
 
-  -- a write stores the record and the words that its value names
-  pub write-bytes : (su : Setup) (x : WriteWords) (v p i : ℕ) (R M N E : List ℕ) → p ≡ pairOf su v → i ≡ mcidOf v → R ≡ bytesOfAll 8 (wordsIn (x .«record»)) → M ≡ withWord 8 (l .masks) p (x .mask)
-      → N ≡ withWord 8 (l .counters) i (x .counter) → E ≡ withWord 2 (l .events) i (x .setting)
-      → lent R M N E ≡ lentOf (wrote su x (tableOf 8 (l .masks)) (tableOf 8 (l .counters)) (tableOf 2 (l .events)) v)
+  -- a write stores the record and the words that its value names, and flushes the units of the RCID that it names
+  pub write-bytes : (su : Setup) (x : WriteWords) (v p i rcid : ℕ) (R M N E O n₁ e₁ : List ℕ) → p ≡ pairOf su v → i ≡ mcidOf v → rcid ≡ rcidOf v → x .counter < 2 ^ 64 → x .setting < 2 ^ 16
+      → R ≡ bytesOfAll 8 (wordsIn (x .«record»)) → M ≡ withWord 8 (l .masks) p (x .mask) → n₁ ≡ withWord 8 (l .counters) i (x .counter) → e₁ ≡ withWord 2 (l .events) i (x .setting)
+      → ((os ns es : List ℕ) → Holds 4 (l .owners) os → Holds 8 n₁ ns → Holds 2 e₁ es
+      → (O ≡ bytesOfAll 4 (cond (x .flushes) (flushedOwners rcid os) os)) × (N ≡ bytesOfAll 8 (cond (x .flushes) (flushed 0 es evicted rcid os ns) ns)))
+      → E ≡ e₁ → lent R M N E O ≡ lentOf (wrote su x (tableOf 8 (l .masks)) (tableOf 8 (l .counters)) (tableOf 2 (l .events)) (tableOf 4 (l .owners)) v)
   unfolding lentOf
-  write-bytes su x v p i R M N E a b q₁ q₂ q₃ q₄ =
-      rw (
-        q₁,
-        q₂,
-        q₃,
-        q₄,
-        a,
-        b,
-        put-held 8 (lit< tt) (pairOf su v) (x .mask) (l .masks) (tableOf 8 (l .masks)) (h .masks-held),
-        put-held 8 (lit< tt) (mcidOf v) (x .counter) (l .counters) (tableOf 8 (l .counters)) (h .counters-held),
-        put-held 2 (lit< tt) (mcidOf v) (x .setting) (l .events) (tableOf 2 (l .events)) (h .events-held),
-      ) refl
+  write-bytes su x v p i rcid R M N E O n₁ e₁ a b d fc fs q₁ q₂ q₃ q₄ f q₅ =
+      let k = held-put 8 (lit< tt) (mcidOf v) (x .counter) (l .counters) (tableOf 8 (l .counters)) n₁ (h .counters-held) fc (rw (← b) q₃) in
+      let e = held-put 2 (lit< tt) (mcidOf v) (x .setting) (l .events) (tableOf 2 (l .events)) e₁ (h .events-held) fs (rw (← b) q₄) in
+      let g = f _ _ _ (h .owners-held) k e in
+      rw (q₁, q₂, q₅, g .0, g .1, e .bytes-are, a, d, put-held 8 (lit< tt) (pairOf su v) (x .mask) (l .masks) (tableOf 8 (l .masks)) (h .masks-held)) refl
 
 -- a call without a pointer
 pub ack-none : (a : Ack) → [] ≡ valuesIn 0 (ackOf a)

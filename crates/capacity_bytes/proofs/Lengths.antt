@@ -8,7 +8,7 @@ use Rattle.words.specs.Words.{tableOf}
 use Rattle.words.proofs.Parts.{table-length}
 use Rattle.tables.proofs.Tests.{and-l, and-r}
 use Rattle.replies.proofs.Laws.{by-lengths, passed}
-use Rattle.capacity_model.specs.Rules.{Setup, setupOk, pairs}
+use Rattle.capacity_model.specs.Rules.{Setup, setupOk, pairs, unitCount}
 use Rattle.capacity_model.specs.View.{Sized}
 use Rattle.capacity_bytes.specs.Bytes.{Lent, recordLength, bytesFit, byteRefusal}
 use Rattle.capacity_bytes.specs.View.{Long}
@@ -18,14 +18,14 @@ module _ (su : Setup) (l : Lent) where
   unfolding byteRefusal
   refusal-is = by-lengths (eqb (length (l .«record»)) recordLength) (setupOk su) (bytesFit su l)
 
-  pub wrong-record : (length (l .«record») ≡ 72 → ⊥) → 1 ≡ byteRefusal su l
-  wrong-record n = rw (refusal-is, ne-eqb (length (l .«record»)) 72 n) refl
+  pub wrong-record : (length (l .«record») ≡ 80 → ⊥) → 1 ≡ byteRefusal su l
+  wrong-record n = rw (refusal-is, ne-eqb (length (l .«record»)) 80 n) refl
 
-  pub wrong-setup : length (l .«record») ≡ 72 → setupOk su ≡ false → 1 ≡ byteRefusal su l
-  wrong-setup e t = rw (refusal-is, eq-eqb (length (l .«record»)) 72 e, t) refl
+  pub wrong-setup : length (l .«record») ≡ 80 → setupOk su ≡ false → 1 ≡ byteRefusal su l
+  wrong-setup e t = rw (refusal-is, eq-eqb (length (l .«record»)) 80 e, t) refl
 
-  pub wrong-lengths : length (l .«record») ≡ 72 → setupOk su ≡ true → cond (bytesFit su l) 0 2 ≡ byteRefusal su l
-  wrong-lengths e t = rw (refusal-is, eq-eqb (length (l .«record»)) 72 e, t) refl
+  pub wrong-lengths : length (l .«record») ≡ 80 → setupOk su ≡ true → cond (bytesFit su l) 0 2 ≡ byteRefusal su l
+  wrong-lengths e t = rw (refusal-is, eq-eqb (length (l .«record»)) 80 e, t) refl
 
   -- they pass
   module _ (z : byteRefusal su l ≡ 0) where
@@ -39,12 +39,13 @@ module _ (su : Setup) (l : Lent) where
         let p = passed (eqb (length (l .«record»)) recordLength) (setupOk su) (bytesFit su l) z in
         let r = p .0 in
         let t = p .1 .1 in
-        search (eqb→eq, and-l, and-r) depth 9
+        search (eqb→eq, and-l, and-r) depth 11
 
     -- and so do the words that the tables hold
-    pub words-sized : Sized su (tableOf 8 (l .masks)) (tableOf 8 (l .counters)) (tableOf 2 (l .events))
+    pub words-sized : Sized su (tableOf 8 (l .masks)) (tableOf 8 (l .counters)) (tableOf 2 (l .events)) (tableOf 4 (l .owners))
     words-sized = record {
       masks-long = table-length 8 (pairs su) (l .masks) (lit< tt) (long .masks-long);
       counters-long = table-length 8 (su .nm) (l .counters) (lit< tt) (long .counters-long);
       events-long = table-length 2 (su .nm) (l .events) (lit< tt) (long .events-long);
+      owners-long = table-length 4 (unitCount su) (l .owners) (lit< tt) (long .owners-long);
     }

@@ -11,7 +11,7 @@ use Rattle.words.proofs.Parts.{bytes-drop}
 use Rattle.replies.specs.Replies.{reply, refusal}
 use Rattle.replies.proofs.Laws as laws
 use Rattle.capacity_masks.proofs.Words.{reset-words, first-inside}
-use Rattle.capacity_model.specs.Rules.{Setup, pairs, allBlocks, resetMasks}
+use Rattle.capacity_model.specs.Rules.{Setup, pairs, unitCount, allBlocks, resetMasks}
 use Rattle.capacity_model.specs.Calls.{reset, done}
 use Rattle.capacity_model.specs.View.{Ranges}
 use Rattle.capacity_model.specs.Model.{State, step}
@@ -63,14 +63,15 @@ module _ (l : Lent) (su : Setup) where
     setup = su;
     alloc = record { ctl = 0; mask = 0; masks = resetMasks su };
     monitor = record { ctl = 0; value = 0; counters = replicate (su .nm) 0; events = replicate (su .nm) 0 };
+    owners = replicate (unitCount su) 0;
   }
 
-  pub reset-bytes : byteRefusal su l ≡ 0 → (R M N E : List ℕ) → R ≡ bytesOfAll 8 (recordOf fresh) → M ≡ bytesOfAll 8 (resetMasks su) → N ≡ replicate (length (l .counters)) 0
-      → E ≡ replicate (length (l .events)) 0 → reply 0 [] (lent R M N E) ≡ stepBytes l (reset su)
+  pub reset-bytes : byteRefusal su l ≡ 0 → (R M N E O : List ℕ) → R ≡ bytesOfAll 8 (recordOf fresh) → M ≡ bytesOfAll 8 (resetMasks su) → N ≡ replicate (length (l .counters)) 0
+      → E ≡ replicate (length (l .events)) 0 → O ≡ replicate (length (l .owners)) 0 → reply 0 [] (lent R M N E O) ≡ stepBytes l (reset su)
   unfolding setupFor lentOf stateOf
-  reset-bytes z R M N E q₁ q₂ q₃ q₄ =
+  reset-bytes z R M N E O q₁ q₂ q₃ q₄ q₅ =
       let g = long su l z in
-      let o : outcome done fresh ≡ step (stateOf l) (reset su) = reset-performed (stateOf l) su (setup-passes su (stateOf l) (in-range su l z) (words-sized su l z)) _ _ _ refl refl refl in
-      laws.step-taken step pointers replyTo (λ k d. byteRefusal (setupFor k d) k) stateOf l (reset su) (reply 0 [] (lent R M N E)) z
-      (laws.answered step pointers replyTo l (stateOf l) (reset su) (outcome done fresh) o (reply 0 [] (lent R M N E))
-      (rw (q₁, q₂, q₃, q₄, g .counters-long, g .events-long, zero-bytes 8 (su .nm), zero-bytes 2 (su .nm)) refl))
+      let o : outcome done fresh ≡ step (stateOf l) (reset su) = reset-performed (stateOf l) su (setup-passes su (stateOf l) (in-range su l z) (words-sized su l z)) _ _ _ _ refl refl refl refl in
+      laws.step-taken step pointers replyTo (λ k d. byteRefusal (setupFor k d) k) stateOf l (reset su) (reply 0 [] (lent R M N E O)) z
+      (laws.answered step pointers replyTo l (stateOf l) (reset su) (outcome done fresh) o (reply 0 [] (lent R M N E O))
+      (rw (q₁, q₂, q₃, q₄, q₅, g .counters-long, g .events-long, g .owners-long, zero-bytes 8 (su .nm), zero-bytes 2 (su .nm), zero-bytes 4 (unitCount su)) refl))

@@ -2,10 +2,9 @@
 use access::Ack;
 use access::Reading;
 use access::refusal_number;
-use capacity::Filling;
 ghost use mathlib.Core.Path.{_≡_};
 ghost use mathlib.Core.List.{[], _∷_};
-ghost use Rattle.capacity.specs.View.{ackOf, readingOf, fillingOf};
+ghost use Rattle.capacity.specs.View.{ackOf, readingOf};
 ghost use Rattle.capacity_bytes.specs.View.{numberIn, valuesIn};
 
 // The refusal's number, 0 for none, and what goes to the call's pointer.
@@ -29,25 +28,6 @@ pub fn reading_numbers(reading: Reading) -> Answered
     match reading {
         Reading::Value(value) => Answered { number: 0, value },
         Reading::Refused(why) => Answered {
-            number: refusal_number(why),
-            value: 0,
-        },
-    }
-}
-
-pub fn filling_numbers(filling: Filling) -> Answered
-    ensures { λ r. ⌜ (r .number ≡ numberIn (fillingOf filling)) × (r .value ∷ [] ≡ valuesIn 1 (fillingOf filling)) ⌝ }
-{
-    match filling {
-        Filling::Allowed => Answered {
-            number: 0,
-            value: 1,
-        },
-        Filling::NotAllowed => Answered {
-            number: 0,
-            value: 0,
-        },
-        Filling::Refused(why) => Answered {
             number: refusal_number(why),
             value: 0,
         },

@@ -9,10 +9,10 @@ ghost use Rattle.words.specs.Words.{wordsOf, bytesOfAll};
 ghost use Rattle.capacity_bytes.specs.View.{wordsIn};
 
 pub fn load_record(bytes: &[u8]) -> Record
-    requires { ⌜ length (now bytes) ≡ 72 ⌝ }
-    ensures { λ r. ⌜ wordsIn r ≡ wordsOf 8 9 (now (bytes .entry)) ⌝ }
+    requires { ⌜ length (now bytes) ≡ 80 ⌝ }
+    ensures { λ r. ⌜ wordsIn r ≡ wordsOf 8 10 (now (bytes .entry)) ⌝ }
 {
-    let mut w = [0u64; 9];
+    let mut w = [0u64; 10];
     decode64(bytes, &mut w);
     let setup = Setup {
         ncblks: w[0],
@@ -20,18 +20,19 @@ pub fn load_record(bytes: &[u8]) -> Record
         na: w[2],
         nm: w[3],
         w: w[4],
+        units: w[5],
     };
     Record {
         setup,
-        mon_ctl: w[5],
-        mon_ctr_val: w[6],
-        alloc_ctl: w[7],
-        block_mask: w[8],
+        mon_ctl: w[6],
+        mon_ctr_val: w[7],
+        alloc_ctl: w[8],
+        block_mask: w[9],
     }
 }
 
 pub fn store_record(record: Record, bytes: &mut [u8])
-    requires { ⌜ length (now bytes) ≡ 72 ⌝ }
+    requires { ⌜ length (now bytes) ≡ 80 ⌝ }
     ensures { λ r. ⌜ now (bytes .exit) ≡ bytesOfAll 8 (wordsIn «record») ⌝ }
 {
     let setup = record.setup;
@@ -41,6 +42,7 @@ pub fn store_record(record: Record, bytes: &mut [u8])
         setup.na,
         setup.nm,
         setup.w,
+        setup.units,
         record.mon_ctl,
         record.mon_ctr_val,
         record.alloc_ctl,

@@ -2,10 +2,12 @@
 use crate::answer::Answered;
 use crate::answer::ack_number;
 use crate::answer::reading_numbers;
+use crate::cache::flush_if;
 use crate::check::Check;
 use crate::check::checked;
 use crate::record::store_record;
 use capacity_masks::named_pair;
+use capacity_masks::named_rcid;
 use monitor::named_mcid;
 use words::put16;
 use words::put64;
@@ -23,12 +25,13 @@ pub fn read(
     masks: &[u8],
     counters: &[u8],
     events: &[u8],
+    owners: &[u8],
     size: u64,
     offset: u64,
 ) -> Answered
-    ensures { λ r. ⌜ reply (r .number) (r .value ∷ []) (after «record» masks counters events) ≡ stepBytes (before «record» masks counters events) (read size offset) ⌝ }
+    ensures { λ r. ⌜ reply (r .number) (r .value ∷ []) (after «record» masks counters events owners) ≡ stepBytes (before «record» masks counters events owners) (read size offset) ⌝ }
 {
-    match checked(record, masks, counters, events) {
+    match checked(record, masks, counters, events, owners) {
         Check::Failed(why) => Answered {
             number: why,
             value: 0,
@@ -42,13 +45,14 @@ pub fn write(
     masks: &mut [u8],
     counters: &mut [u8],
     events: &mut [u8],
+    owners: &mut [u8],
     size: u64,
     offset: u64,
     value: u64,
 ) -> u64
-    ensures { λ r. ⌜ reply r [] (after «record» masks counters events) ≡ stepBytes (before «record» masks counters events) (write size offset value) ⌝ }
+    ensures { λ r. ⌜ reply r [] (after «record» masks counters events owners) ≡ stepBytes (before «record» masks counters events owners) (write size offset value) ⌝ }
 {
-    match checked(record, masks, counters, events) {
+    match checked(record, masks, counters, events, owners) {
         Check::Failed(why) => why,
         Check::Passed(held) => {
             let p = named_pair(held.setup, value);
@@ -67,6 +71,7 @@ pub fn write(
             put64(masks, p, left.mask);
             put64(counters, i, left.counter);
             put16(events, i, left.setting as u64);
+            flush_if(left.flushes, owners, counters, events, named_rcid(value));
             store_record(after, record);
             ack_number(ack)
         }

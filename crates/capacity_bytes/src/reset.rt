@@ -37,10 +37,11 @@ pub fn reset(
     masks: &mut [u8],
     counters: &mut [u8],
     events: &mut [u8],
+    owners: &mut [u8],
 ) -> u64
-    ensures { λ r. ⌜ reply r [] (after «record» masks counters events) ≡ stepBytes (before «record» masks counters events) (reset (setupOf setup)) ⌝ }
+    ensures { λ r. ⌜ reply r [] (after «record» masks counters events owners) ≡ stepBytes (before «record» masks counters events owners) (reset (setupOf setup)) ⌝ }
 {
-    let why = byte_refusal(setup, record, masks, counters, events);
+    let why = byte_refusal(setup, record, masks, counters, events, owners);
     if why != 0 {
         return why;
     }
@@ -55,5 +56,6 @@ pub fn reset(
     reset_masks(setup, masks);
     clear8(counters);
     clear8(events);
+    clear8(owners);
     0
 }

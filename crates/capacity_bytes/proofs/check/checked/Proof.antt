@@ -22,8 +22,8 @@ returns-2 : tie.Need-returns-2
 returns-2 c =
     let z = sym (c .before .before .before .before .record-refusal .ensures) ∙ c .before .before .before .if1 .left in
     let s = c .before .before .before .before .before in
-    tested-passed _ _ (c .before .before .load-record .ensures) z _ (c .before .well-formed .ensures) (c .if2 .taken) (λ i. s .before .before .before .shared-slice-known .given i .fits)
-    (λ i. s .before .before .shared-slice-known2 .given i .fits) (λ i. s .before .shared-slice-known3 .given i .fits) (λ i. s .shared-slice-known4 .given i .fits)
+    tested-passed _ _ (c .before .before .load-record .ensures) z _ (c .before .well-formed .ensures) (c .if2 .taken) (λ i. s .before .before .before .before .shared-slice-known .given i .fits)
+    (λ i. s .before .before .before .shared-slice-known2 .given i .fits) (λ i. s .before .before .shared-slice-known3 .given i .fits) (λ i. s .before .shared-slice-known4 .given i .fits) (λ i. s .shared-slice-known5 .given i .fits)
 
 returns-3 : tie.Need-returns-3
 returns-3 c =
@@ -31,4 +31,6 @@ returns-3 c =
     tested-failed _ _ (c .before .before .load-record .ensures) z _ (c .before .well-formed .ensures) (c .if2 .left)
 
 pub checked-spec : {M : Type 1} → statement M
-checked-spec = tie.close (tie.spec (λ c κs. search needs) returns load-record-requires well-formed-requires returns-2 returns-3)
+checked-spec =
+    tie.close
+    (tie.spec (λ c κs. search needs) returns load-record-requires well-formed-requires returns-2 returns-3)

@@ -15,7 +15,7 @@ returns c = failed-of _ _ _ (c .before .before .before .checked .ensures) (c .be
 returns-2 : tie.Need-returns-2
 returns-2 c =
     let h = passed-of _ _ _ (c .before .before .before .before .before .checked .ensures) (c .before .before .before .held .given .1) in
-    answered h (read _ _) tt _ _ (c .before .reading .ensures _ _ _ (h .passed)) _ (read-bytes h) _ _ (c .reading-numbers .ensures .0) (c .reading-numbers .ensures .1)
+    answered h (read _ _) tt _ _ (c .before .reading .ensures _ _ _ _ (h .passed)) _ (read-bytes h) _ _ (c .reading-numbers .ensures .0) (c .reading-numbers .ensures .1)
 
 pub read-spec : {M : Type 1} → statement M
 read-spec = tie.close (tie.spec (λ c κs. search needs) (λ c. search needs) (λ c. search needs) reading-requires (λ c κs. search needs) returns returns-2)

@@ -20,10 +20,12 @@ reset-masks-requires c κs =
 
 returns-2 : tie.Need-returns-2
 returns-2 c =
-    let z = sym (c .before .before .before .before .before .before .before .before .before .before .before .before .before .before .before .before .before .byte-refusal .ensures) ∙ c .before .before .before .before .before .before .before .before .before .before .before .before .before .before .before .before .if1 .left in
-    reset-bytes _ _ z _ _ _ _ (c .before .before .before .before .before .before .before .before .before .before .before .before .before .before .store-record .ensures) (c .before .before .before .before .before .before .before .before .before .before .reset-masks .ensures) (c .before .before .before .before .before .before .clear8 .ensures) (c .before .before .clear82 .ensures)
+    let z = sym (c .before .before .before .before .before .before .before .before .before .before .before .before .before .before .before .before .before .before .before .before .before .byte-refusal .ensures) ∙ c .before .before .before .before .before .before .before .before .before .before .before .before .before .before .before .before .before .before .before .before .if1 .left in
+    reset-bytes _ _ z _ _ _ _ _ (c .before .before .before .before .before .before .before .before .before .before .before .before .before .before .before .before .before .before .store-record .ensures) (c .before .before .before .before .before .before .before .before .before .before .before .before .before .before .reset-masks .ensures) (c .before .before .before .before .before .before .before .before .before .before .clear8 .ensures) (c .before .before .before .before .before .before .clear82 .ensures) (c .before .before .clear83 .ensures)
 
 pub reset-spec : {M : Type 1} → statement M
 reset-spec =
     tie.close
-    (tie.spec (λ c κs. search needs) (λ c. search needs) (λ c. search needs) (λ c. search needs) (λ c. search needs) returns store-record-requires reset-masks-requires (λ c κs. search needs) (λ c κs. search needs) (λ c. search needs) (λ c. search needs) (λ c. search needs) (λ c. search needs) returns-2)
+    (tie.spec (λ c κs. search needs) (λ c. search needs) (λ c. search needs) (λ c. search needs) (λ c. search needs) (λ c. search needs) returns store-record-requires
+    reset-masks-requires (λ c κs. search needs) (λ c κs. search needs) (λ c κs. search needs) (λ c. search needs) (λ c. search needs) (λ c. search needs) (λ c. search needs)
+    (λ c. search needs) returns-2)
