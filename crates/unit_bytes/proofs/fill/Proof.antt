@@ -30,7 +30,7 @@ returns c =
       left-held 4 (lit< tt) (a .owners .now) os _ _ ho (search needs) (λ j. c .slice-known5 .given j .fits)
           (rw (ho .words-are, ← c .before .before .before .owner-word .ensures) (table-put 4 (lit< tt) _ _ (a .owners .now) _ (search needs) (c .before .before .put32 .ensures))),
       left-held 8 (lit< tt) (a .counters .now) ns _ _ hn (search needs) (λ j. c .before .before .before .before .before .slice-known4 .given j .fits)
-          (rw (ho .words-are, hn .words-are, he .words-are, ← emptied .before .word32 .ensures, ← emptied .count-emptied .ensures) (filled .count-filled .ensures)),
+          (rw (ho .words-are, hn .words-are, he .words-are, ← emptied .before .before .word32 .ensures, ← emptied .count-emptied .ensures) (filled .count-filled .ensures)),
     )
 
 pub fill-spec : {M : Type 1} → statement M

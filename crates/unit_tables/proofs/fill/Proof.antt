@@ -23,7 +23,7 @@ returns c =
     let filled = c .before .before .before .before .before .before .before in
     let emptied = filled .before .before .before .before in (
       c .before .before .put32 .ensures ∙ rw (c .before .before .before .owner-word .ensures),
-      rw (← emptied .before .word32 .ensures, ← emptied .count-emptied .ensures) (filled .count-filled .ensures),
+      rw (← emptied .before .before .word32 .ensures, ← emptied .count-emptied .ensures) (filled .count-filled .ensures),
     )
 
 pub fill-spec : {M : Type 1} → statement M
