@@ -95,7 +95,8 @@ pub fn fill(
     ensures { λ _. ⌜ ((os ns es : List ℕ) → Holds 4 (now (owners .entry)) os → Holds 8 (now (counters .entry)) ns → Holds 2 (now (events .entry)) es
         → (now (owners .exit) ≡ bytesOfAll 4 (set os unit (ownerWord rcid mcid at))) × (now (counters .exit) ≡ bytesOfAll 8 (refilled 0 es (filled w) evicted ns (getD os unit 0) mcid at))) ⌝ }
 {
-    count_emptied(counters, events, word32(owners, unit));
+    let old = word32(owners, unit);
+    count_emptied(counters, events, old);
     count_filled(w, counters, events, mcid, at);
     put32(owners, unit, owner_word(rcid, mcid, at) as u64);
 }

@@ -67,7 +67,8 @@ pub fn fill(
     ensures { λ _. ⌜ (now (owners .exit) ≡ set (now (owners .entry)) unit (ownerWord rcid mcid at))
         × (now (counters .exit) ≡ refilled 0 (now (events .entry)) (filled w) evicted (now (counters .entry)) (getD (now (owners .entry)) unit 0) mcid at) ⌝ }
 {
-    count_emptied(counters, events, word32(owners, unit));
+    let old = word32(owners, unit);
+    count_emptied(counters, events, old);
     count_filled(w, counters, events, mcid, at);
     put32(owners, unit, owner_word(rcid, mcid, at));
 }
@@ -78,8 +79,10 @@ fn flush_unit(owners: &mut [u32], counters: &mut [u64], events: &[u16], rcid: u6
         × (now (counters .exit) ≡ cond (ofRcid rcid (getD (now (owners .entry)) unit 0))
         (emptied 0 (now (events .entry)) evicted (now (counters .entry)) (getD (now (owners .entry)) unit 0)) (now (counters .entry))) ⌝ }
 {
-    if is_of(word32(owners, unit), rcid) {
-        evict(owners, counters, events, unit);
+    let owner = word32(owners, unit);
+    if is_of(owner, rcid) {
+        count_emptied(counters, events, owner);
+        put32(owners, unit, 0);
     }
 }
 

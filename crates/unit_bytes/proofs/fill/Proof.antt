@@ -5,8 +5,7 @@ use Rattle.fields.specs.Registers as reg
 use Rattle.words.specs.Words.{tableOf}
 use Rattle.words.proofs.Held.{table-put, left-held}
 use Rattle.monitor.proofs.Counters.{counter-lt}
-use Rattle.units.specs.Counts.{refilled}
-use Rattle.unit_tables.proofs.Steps.{emptied-ok}
+use Rattle.unit_tables.proofs.Steps.{refilled-is, emptied-ok}
 use Rattle.unit_bytes.proofs.fill.Statement.{statement}
 use Rattle.unit_bytes.proofs.fill.Tie as tie
 
@@ -21,7 +20,6 @@ count-filled-requires c κs =
     )
 
 returns : tie.Need-returns
-unfolding refilled
 returns c =
     λ os ns es ho hn he.
     let filled = c .before .before .before .before .before .before .before in
@@ -30,7 +28,7 @@ returns c =
       left-held 4 (lit< tt) (a .owners .now) os _ _ ho (search needs) (λ j. c .slice-known5 .given j .fits)
           (rw (ho .words-are, ← c .before .before .before .owner-word .ensures) (table-put 4 (lit< tt) _ _ (a .owners .now) _ (search needs) (c .before .before .put32 .ensures))),
       left-held 8 (lit< tt) (a .counters .now) ns _ _ hn (search needs) (λ j. c .before .before .before .before .before .slice-known4 .given j .fits)
-          (rw (ho .words-are, hn .words-are, he .words-are, ← emptied .before .word32 .ensures, ← emptied .count-emptied .ensures) (filled .count-filled .ensures)),
+          (rw (ho .words-are, hn .words-are, he .words-are, ← emptied .before .before .word32 .ensures) (refilled-is (a .w) (tableOf 8 (a .counters .now)) (tableOf 2 (a .events .now)) _ _ _ _ _ (emptied .count-emptied .ensures) (filled .count-filled .ensures))),
     )
 
 pub fill-spec : {M : Type 1} → statement M

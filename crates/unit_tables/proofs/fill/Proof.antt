@@ -3,8 +3,7 @@ use mathlib.Core.Path.{_∙_}
 use borrow.Author.Needs.{needs}
 use Rattle.fields.specs.Registers as reg
 use Rattle.monitor.proofs.Counters.{counter-lt}
-use Rattle.units.specs.Counts.{refilled}
-use Rattle.unit_tables.proofs.Steps.{emptied-ok}
+use Rattle.unit_tables.proofs.Steps.{refilled-is, emptied-ok}
 use Rattle.unit_tables.proofs.fill.Statement.{statement}
 use Rattle.unit_tables.proofs.fill.Tie as tie
 
@@ -18,12 +17,12 @@ count-filled-requires c κs =
     )
 
 returns : tie.Need-returns
-unfolding refilled
 returns c =
     let filled = c .before .before .before .before .before .before .before in
-    let emptied = filled .before .before .before .before in (
+    let emptied = filled .before .before .before .before in
+    let a = emptied .before .before .before .before .before .before .before .args in (
       c .before .before .put32 .ensures ∙ rw (c .before .before .before .owner-word .ensures),
-      rw (← emptied .before .word32 .ensures, ← emptied .count-emptied .ensures) (filled .count-filled .ensures),
+      rw (← emptied .before .before .word32 .ensures) (refilled-is (a .w) (a .counters .now) (a .events .now) _ _ _ _ _ (emptied .count-emptied .ensures) (filled .count-filled .ensures)),
     )
 
 pub fill-spec : {M : Type 1} → statement M

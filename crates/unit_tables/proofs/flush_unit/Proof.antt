@@ -6,9 +6,9 @@ use Rattle.unit_tables.proofs.flush_unit.Tie as tie
 
 returns : tie.Need-returns
 returns c =
-    let evicted = c .before .before .before .before in
-    let of = evicted .before .before .before .before in
-    rw (← of .before .word32 .ensures, ← of .is-of .ensures, evicted .before .before .before .if1 .taken, of .before .word32 .ensures) (evicted .evict .ensures)
+    let counted = c .before .before .before .before .before .before in
+    let of = counted .before .before .before in
+    rw (← of .before .word32 .ensures, ← of .is-of .ensures, counted .before .before .if1 .taken) (c .before .before .put32 .ensures, counted .count-emptied .ensures)
 
 returns-2 : tie.Need-returns-2
 returns-2 c = rw (← c .before .before .word32 .ensures, ← c .before .is-of .ensures, c .if1 .left) (refl, refl)
@@ -16,4 +16,4 @@ returns-2 c = rw (← c .before .before .word32 .ensures, ← c .before .is-of .
 pub flush-unit-spec : {M : Type 1} → statement M
 flush-unit-spec =
     tie.close
-    (tie.spec (λ c κs. search needs) (λ c κs. search needs) (λ c κs. search needs) (λ c. search needs) (λ c. search needs) returns (λ c. search needs) returns-2)
+    (tie.spec (λ c κs. search needs) (λ c κs. search needs) (λ c κs. search needs) (λ c κs. search needs) (λ c. search needs) (λ c. search needs) returns (λ c. search needs) returns-2)
