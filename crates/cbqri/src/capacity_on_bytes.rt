@@ -14,12 +14,14 @@ pub extern "C" fn cbqri_capacity_reset(
     na: u64,
     nm: u64,
     w: u64,
+    u: u64,
     record: &mut [u8],
     masks: &mut [u8],
     counters: &mut [u8],
     events: &mut [u8],
+    owners: &mut [u8],
 ) -> u64
-    ensures { λ r. ⌜ reply r [] (after «record» masks counters events) ≡ stepBytes (before «record» masks counters events) (reset (setupBy ncblks nr na nm w)) ⌝ }
+    ensures { λ r. ⌜ reply r [] (after «record» masks counters events owners) ≡ stepBytes (before «record» masks counters events owners) (reset (setupBy ncblks nr na nm w u)) ⌝ }
 {
     let setup = Setup {
         ncblks,
@@ -27,8 +29,9 @@ pub extern "C" fn cbqri_capacity_reset(
         na,
         nm,
         w,
+        units: u,
     };
-    capacity_bytes::reset::reset(setup, record, masks, counters, events)
+    capacity_bytes::reset::reset(setup, record, masks, counters, events, owners)
 }
 
 #[no_mangle]
@@ -37,13 +40,14 @@ pub extern "C" fn cbqri_capacity_read(
     masks: &[u8],
     counters: &[u8],
     events: &[u8],
+    owners: &[u8],
     size: u64,
     offset: u64,
     value: &mut u64,
 ) -> u64
-    ensures { λ r. ⌜ reply r (now (value .exit) ∷ []) (after «record» masks counters events) ≡ stepBytes (before «record» masks counters events) (read size offset) ⌝ }
+    ensures { λ r. ⌜ reply r (now (value .exit) ∷ []) (after «record» masks counters events owners) ≡ stepBytes (before «record» masks counters events owners) (read size offset) ⌝ }
 {
-    let answered = capacity_bytes::read(record, masks, counters, events, size, offset);
+    let answered = capacity_bytes::read(record, masks, counters, events, owners, size, offset);
     *value = answered.value;
     answered.number
 }
@@ -54,13 +58,14 @@ pub extern "C" fn cbqri_capacity_write(
     masks: &mut [u8],
     counters: &mut [u8],
     events: &mut [u8],
+    owners: &mut [u8],
     size: u64,
     offset: u64,
     value: u64,
 ) -> u64
-    ensures { λ r. ⌜ reply r [] (after «record» masks counters events) ≡ stepBytes (before «record» masks counters events) (write size offset value) ⌝ }
+    ensures { λ r. ⌜ reply r [] (after «record» masks counters events owners) ≡ stepBytes (before «record» masks counters events owners) (write size offset value) ⌝ }
 {
-    capacity_bytes::write(record, masks, counters, events, size, offset, value)
+    capacity_bytes::write(record, masks, counters, events, owners, size, offset, value)
 }
 
 #[no_mangle]
@@ -69,15 +74,18 @@ pub extern "C" fn cbqri_capacity_fill(
     masks: &[u8],
     counters: &mut [u8],
     events: &[u8],
+    owners: &mut [u8],
     rcid: u64,
     mcid: u64,
     at: u64,
-    block: u64,
+    unit: u64,
     allowed: &mut u64,
 ) -> u64
-    ensures { λ r. ⌜ reply r (now (allowed .exit) ∷ []) (after «record» masks counters events) ≡ stepBytes (before «record» masks counters events) (fill rcid mcid at block) ⌝ }
+    ensures { λ r. ⌜ reply r (now (allowed .exit) ∷ []) (after «record» masks counters events owners) ≡ stepBytes (before «record» masks counters events owners) (fill rcid mcid at unit) ⌝ }
 {
-    let answered = capacity_bytes::fill(record, masks, counters, events, rcid, mcid, at, block);
+    let answered = capacity_bytes::fill(
+        record, masks, counters, events, owners, rcid, mcid, at, unit,
+    );
     *allowed = answered.value;
     answered.number
 }
@@ -88,12 +96,10 @@ pub extern "C" fn cbqri_capacity_evict(
     masks: &[u8],
     counters: &mut [u8],
     events: &[u8],
-    rcid: u64,
-    mcid: u64,
-    at: u64,
-    block: u64,
+    owners: &mut [u8],
+    unit: u64,
 ) -> u64
-    ensures { λ r. ⌜ reply r [] (after «record» masks counters events) ≡ stepBytes (before «record» masks counters events) (evict rcid mcid at block) ⌝ }
+    ensures { λ r. ⌜ reply r [] (after «record» masks counters events owners) ≡ stepBytes (before «record» masks counters events owners) (evict unit) ⌝ }
 {
-    capacity_bytes::evict(record, masks, counters, events, rcid, mcid, at, block)
+    capacity_bytes::evict(record, masks, counters, events, owners, unit)
 }
