@@ -15,6 +15,7 @@ struct Cache {
     masks: [u64; 16],
     counters: [u64; 4],
     events: [u16; 4],
+    owners: [u32; 16],
 }
 
 const MON_CTL: u64 = 8;
@@ -72,9 +73,16 @@ fn write(cache: Cache, offset: u64, value: u64) -> Cache {
     let mut masks = cache.masks;
     let mut counters = cache.counters;
     let mut events = cache.events;
-    let done = cache
-        .record
-        .write(&mut masks, &mut counters, &mut events, 8, offset, value);
+    let mut owners = cache.owners;
+    let done = cache.record.write(
+        &mut masks,
+        &mut counters,
+        &mut events,
+        &mut owners,
+        8,
+        offset,
+        value,
+    );
     let record = done.record;
     let ack = done.ack;
     acked(ack);
@@ -83,6 +91,7 @@ fn write(cache: Cache, offset: u64, value: u64) -> Cache {
         masks,
         counters,
         events,
+        owners,
     }
 }
 
@@ -92,8 +101,9 @@ fn read(cache: Cache, offset: u64) {
     let masks = cache.masks;
     let counters = cache.counters;
     let events = cache.events;
+    let owners = cache.owners;
     let record = cache.record;
-    let done = record.read(&masks, &counters, &events, 8, offset);
+    let done = record.read(&masks, &counters, &events, &owners, 8, offset);
     let reading = done.reading;
     match reading {
         Reading::Value(word) => {
@@ -112,21 +122,25 @@ fn set(cache: Cache, mask: u64, config: u64) -> Cache {
     cache
 }
 
-// What a fill and an eviction name; the MCID is 0.
-fn event(name: &[u8], rcid: u64, at: u64, block: u64) {
-    number(name, rcid);
+// A fill; the MCID is 0.
+fn fill(cache: Cache, rcid: u64, at: u64, unit: u64) -> Cache {
+    number(b"fill  RCID ", rcid);
     number(b" AT ", at);
-    number(b" block ", block);
-}
-
-fn fill(cache: Cache, rcid: u64, at: u64, block: u64) -> Cache {
-    event(b"fill  RCID ", rcid, at, block);
+    number(b" unit ", unit);
     let masks = cache.masks;
     let mut counters = cache.counters;
     let events = cache.events;
-    let done = cache
-        .record
-        .fill(&masks, &mut counters, &events, rcid, 0, at, block);
+    let mut owners = cache.owners;
+    let done = cache.record.fill(
+        &masks,
+        &mut counters,
+        &events,
+        &mut owners,
+        rcid,
+        0,
+        at,
+        unit,
+    );
     let record = done.record;
     let filling = done.filling;
     match filling {
@@ -139,17 +153,19 @@ fn fill(cache: Cache, rcid: u64, at: u64, block: u64) -> Cache {
         masks,
         counters,
         events,
+        owners,
     }
 }
 
-fn evict(cache: Cache, rcid: u64, at: u64, block: u64) -> Cache {
-    event(b"evict RCID ", rcid, at, block);
+fn evict(cache: Cache, unit: u64) -> Cache {
+    number(b"evict unit ", unit);
     let masks = cache.masks;
     let mut counters = cache.counters;
     let events = cache.events;
+    let mut owners = cache.owners;
     let done = cache
         .record
-        .evict(&masks, &mut counters, &events, rcid, 0, at, block);
+        .evict(&masks, &mut counters, &events, &mut owners, unit);
     let record = done.record;
     let ack = done.ack;
     acked(ack);
@@ -158,6 +174,7 @@ fn evict(cache: Cache, rcid: u64, at: u64, block: u64) -> Cache {
         masks,
         counters,
         events,
+        owners,
     }
 }
 
@@ -170,10 +187,12 @@ fn reset() -> Cache {
         na: 2,
         nm: 4,
         w: 24,
+        units: 2,
     };
     let mut masks = [0u64; 16];
     let mut counters = [0u64; 4];
     let mut events = [0u16; 4];
+    let mut owners = [0u32; 16];
     let blank = Record {
         setup,
         mon_ctl: 0,
@@ -181,7 +200,13 @@ fn reset() -> Cache {
         alloc_ctl: 0,
         block_mask: 0,
     };
-    let done = blank.reset(&mut masks, &mut counters, &mut events, setup);
+    let done = blank.reset(
+        &mut masks,
+        &mut counters,
+        &mut events,
+        &mut owners,
+        setup,
+    );
     let record = done.record;
     let ack = done.ack;
     acked(ack);
@@ -190,6 +215,7 @@ fn reset() -> Cache {
         masks,
         counters,
         events,
+        owners,
     }
 }
 
@@ -203,26 +229,33 @@ fn configure(cache: Cache) -> Cache {
     set(cache, 0x18, 0x621)
 }
 
-// Fills of RCID 5: blocks 0 and 1 for AT 0, block 2 for AT 1.
+// Fills of RCID 5: blocks 0 and 1 for AT 0, block 2 for AT 1; each block has two units.
 fn fill_own(cache: Cache) -> Cache {
     let cache = fill(cache, 5, 0, 0);
-    let cache = fill(cache, 5, 0, 1);
-    let cache = fill(cache, 5, 0, 2);
-    let cache = fill(cache, 5, 1, 1);
-    fill(cache, 5, 1, 2)
+    let cache = fill(cache, 5, 0, 3);
+    let cache = fill(cache, 5, 0, 4);
+    let cache = fill(cache, 5, 1, 3);
+    fill(cache, 5, 1, 4)
 }
 
-// Fills of RCIDs 3 and 6, which have the same blocks, of RCID 0, which has every block, of RCID 1, which has none, and of a block that is not there.
+// Fills of RCIDs 3 and 6, which have the same blocks, of RCID 0, which has every block, of RCID 1, which has none, and of a unit that is not there.
 fn fill_shared(cache: Cache) -> Cache {
-    let cache = fill(cache, 3, 0, 3);
-    let cache = fill(cache, 3, 1, 4);
-    let cache = fill(cache, 3, 0, 5);
-    let cache = fill(cache, 6, 0, 3);
-    let cache = fill(cache, 6, 1, 4);
+    let cache = fill(cache, 3, 0, 6);
+    let cache = fill(cache, 3, 1, 8);
+    let cache = fill(cache, 3, 0, 10);
+    let cache = fill(cache, 6, 0, 6);
+    let cache = fill(cache, 6, 1, 9);
     let cache = fill(cache, 6, 1, 0);
-    let cache = fill(cache, 0, 1, 7);
-    let cache = fill(cache, 1, 0, 7);
-    fill(cache, 5, 0, 8)
+    let cache = fill(cache, 0, 1, 15);
+    let cache = fill(cache, 1, 0, 15);
+    fill(cache, 5, 0, 16)
+}
+
+// READ_COUNTER of MCID 0.
+fn count(cache: Cache) -> Cache {
+    let cache = write(cache, MON_CTL, 2);
+    read(cache, MON_CTR_VAL);
+    cache
 }
 
 fn main() {
@@ -233,16 +266,18 @@ fn main() {
     let cache = write(cache, MON_CTL, 0x100001);
     let cache = fill_own(cache);
     let cache = fill_shared(cache);
-    let cache = evict(cache, 5, 0, 0);
-    // READ_COUNTER
-    let cache = write(cache, MON_CTL, 2);
-    read(cache, MON_CTR_VAL);
+    let cache = evict(cache, 0);
+    let cache = count(cache);
+    // FLUSH_RCID: the units of RCID 5 are free before another job has it
+    let cache = write(cache, ALLOC_CTL, 0x503);
+    read(cache, ALLOC_CTL);
+    let cache = count(cache);
     // READ_LIMIT
     let cache = write(cache, ALLOC_CTL, 0x522);
     read(cache, BLOCK_MASK);
     // a mask of 0 is a bad operand, and RCID 5 keeps its own
     let cache = set(cache, 0, 0x501);
-    let cache = fill(cache, 5, 0, 1);
+    let cache = fill(cache, 5, 0, 2);
     // bits NCBLKS and above are held as 0
     let cache = write(cache, BLOCK_MASK, 0xffff_ffff_ffff_fff5);
     read(cache, BLOCK_MASK);
