@@ -200,13 +200,7 @@ fn reset() -> Cache {
         alloc_ctl: 0,
         block_mask: 0,
     };
-    let done = blank.reset(
-        &mut masks,
-        &mut counters,
-        &mut events,
-        &mut owners,
-        setup,
-    );
+    let done = blank.reset(&mut masks, &mut counters, &mut events, &mut owners, setup);
     let record = done.record;
     let ack = done.ack;
     acked(ack);

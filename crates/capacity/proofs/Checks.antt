@@ -4,15 +4,13 @@ use mathlib.Core.Bool.{Bool, true, false, not, cond, _&&_}
 use mathlib.Core.List.{[], _∷_}
 use Prim.Native.Nat.{ℕ, _^_, _<_}
 use borrow.Author.Tests.{eq-eqb}
-use native.Mathlib.Omega.{arith}
-use lib.Dec.{T, eqb, eqb→eq, nleb→lt, leb, ltb→lt, lt→ltb, ltb}
+use lib.Dec.{T, eqb, eqb→eq}
 use lib.ListN.{getD}
-use lib.Pow.{pow-pos}
-use Rattle.fields.specs.Layout.{get, namedBits}
+use Rattle.fields.specs.Layout.{namedBits}
 use Rattle.fields.specs.Registers as reg
 use Rattle.fields.proofs.Registers.{capacityCounter-kept}
 use Rattle.tables.specs.Below.{allBelow}
-use Rattle.tables.proofs.Tests.{and-l, and-r, and-in, not-not, nor-l, nor-r, eqb-in, is-true}
+use Rattle.tables.proofs.Tests.{and-l, and-r, and-in, not-not, eqb-in, is-true}
 use Rattle.tables.proofs.Laws.{every-below}
 use Rattle.access.specs.Checks as access
 use Rattle.access.specs.Checks.{_gives_, first}

@@ -52,13 +52,7 @@ fn fill_verdict(setup: Setup, rcid: u64, mcid: u64, unit: u64) -> Verdict
 }
 
 // FLUSH_RCID where `flushes` holds.
-pub fn flush_if(
-    flushes: bool,
-    owners: &mut [u32],
-    counters: &mut [u64],
-    events: &[u16],
-    rcid: u64,
-)
+pub fn flush_if(flushes: bool, owners: &mut [u32], counters: &mut [u64], events: &[u16], rcid: u64)
     ensures { λ _. ⌜ (now (owners .exit) ≡ cond flushes (flushedOwners rcid (now (owners .entry))) (now (owners .entry)))
         × (now (counters .exit) ≡ cond flushes (flushed 0 (now (events .entry)) evicted rcid (now (owners .entry)) (now (counters .entry))) (now (counters .entry))) ⌝ }
 {

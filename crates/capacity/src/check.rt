@@ -93,13 +93,7 @@ impl Record {
     }
 
     // Checks 1 to 3.
-    pub fn check(
-        self,
-        masks: &[u64],
-        counters: &[u64],
-        events: &[u16],
-        owners: &[u32],
-    ) -> Verdict
+    pub fn check(self, masks: &[u64], counters: &[u64], events: &[u16], owners: &[u32]) -> Verdict
         ensures { λ r. ⌜ verdictOf r ≡ first (stateChecks (before self masks counters events owners)) 0 ⌝ }
     {
         match self.check_setup(self.setup, masks, counters, events, owners) {

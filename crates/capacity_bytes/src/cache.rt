@@ -21,13 +21,7 @@ ghost use Rattle.capacity_bytes.specs.Bytes.{stepBytes};
 ghost use Rattle.capacity_bytes.specs.View.{before, after};
 
 // FLUSH_RCID where `flushes` holds.
-pub fn flush_if(
-    flushes: bool,
-    owners: &mut [u8],
-    counters: &mut [u8],
-    events: &[u8],
-    rcid: u64,
-)
+pub fn flush_if(flushes: bool, owners: &mut [u8], counters: &mut [u8], events: &[u8], rcid: u64)
     ensures { λ _. ⌜ ((os ns es : List ℕ) → Holds 4 (now (owners .entry)) os → Holds 8 (now (counters .entry)) ns → Holds 2 (now (events .entry)) es
         → (now (owners .exit) ≡ bytesOfAll 4 (cond flushes (flushedOwners rcid os) os)) × (now (counters .exit) ≡ bytesOfAll 8 (cond flushes (flushed 0 es evicted rcid os ns) ns))) ⌝ }
 {

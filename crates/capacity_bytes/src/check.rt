@@ -17,13 +17,7 @@ ghost use Rattle.capacity.specs.View.{state};
 ghost use Rattle.capacity_bytes.specs.View.{before, Checked};
 
 // Check 3.
-fn well_formed(
-    held: Record,
-    masks: &[u8],
-    counters: &[u8],
-    events: &[u8],
-    owners: &[u8],
-) -> bool
+fn well_formed(held: Record, masks: &[u8], counters: &[u8], events: &[u8], owners: &[u8]) -> bool
     requires { ⌜ Ranges (setupOf (held .setup)) × Sized (setupOf (held .setup)) (tableOf 8 (now masks)) (tableOf 8 (now counters)) (tableOf 2 (now events)) (tableOf 4 (now owners)) ⌝ }
     ensures { λ r. ⌜ r ≡ wellFormed (state held (tableOf 8 (now (masks .entry))) (tableOf 8 (now (counters .entry))) (tableOf 2 (now (events .entry))) (tableOf 4 (now (owners .entry)))) ⌝ }
 {
@@ -42,13 +36,7 @@ pub enum Check {
     Failed(u64),
 }
 
-pub fn checked(
-    record: &[u8],
-    masks: &[u8],
-    counters: &[u8],
-    events: &[u8],
-    owners: &[u8],
-) -> Check
+pub fn checked(record: &[u8], masks: &[u8], counters: &[u8], events: &[u8], owners: &[u8]) -> Check
     ensures { λ r. ⌜ Checked (before «record» masks counters events owners) r ⌝ }
 {
     let why = record_refusal(record, masks, counters, events, owners);

@@ -1,18 +1,16 @@
 -- The counter of an MCID that owned no unit when it was configured tells the units that it owns.
-use mathlib.Core.Path.{_≡_, refl, sym, ap, subst, subst⁻¹, _∙_}
+use mathlib.Core.Path.{_≡_, refl, sym, subst}
 use mathlib.Core.Bool.{Bool, true, false, not, cond, _&&_, _||_}
-use mathlib.Core.List.{List, [], _∷_}
-use Prim.Native.Nat.{ℕ, _+_, _-_, _*_, _^_, _≤_, _<_}
+use mathlib.Core.List.{List}
+use Prim.Native.Nat.{ℕ, _+_, _-_, _^_, _≤_, _<_}
 use native.Mathlib.Nat.{zero-add, mul-le-mul}
 use native.Mathlib.Omega.{arith}
 use lib.Dec.{T, eqb, eqb→eq, lit<}
 use lib.ListN.{length, getD, set}
 use lib.Pow.{pow-pos, pow-mono}
 use lib.Seq.{getD-set-same, getD-set-other}
-use Rattle.fields.specs.Layout.{get}
-use Rattle.fields.specs.Registers as reg
 use Rattle.tables.specs.Below.{between}
-use Rattle.tables.proofs.Tests.{cases, and-l, and-in, nand-r, nor-l, nor-r, not-both, cond-yes, eqb-in, is-true}
+use Rattle.tables.proofs.Tests.{cases, and-l, and-in, nand-r, not-both, cond-yes, eqb-in}
 use Rattle.tables.proofs.Laws.{length-stored}
 use Rattle.access.specs.Access as access
 use Rattle.access.specs.Checks.{onWrite}
@@ -25,7 +23,7 @@ use Rattle.codes.specs.declared.AllocOp.the-variants.{FlushRcid}
 use Rattle.codes.specs.declared.CapacityEvent.the-variants.{Occupancy}
 use Rattle.codes.proofs.Rows.{code-of}
 use Rattle.allocation.specs.Allocation.{rcidOf}
-use Rattle.monitor.specs.Monitor.{Monitor, mcidOf, eventOf, atOf, atvOf, monSucceeds, settingOf, writeMon, matchesAt}
+use Rattle.monitor.specs.Monitor.{mcidOf, eventOf, atvOf, monSucceeds, settingOf, writeMon, matchesAt}
 use Rattle.monitor.specs.Occupancy.{countsBlock, occupancyWord, filled, evicted}
 use Rattle.monitor.proofs.Operations.{done-mcid}
 use Rattle.monitor.proofs.Occupancy.{word-invalid, word-ctr}
@@ -33,18 +31,18 @@ use Rattle.units.specs.Owners.{unitsOf, flushedOwners}
 use Rattle.units.specs.Counts.{flushed}
 use Rattle.units.proofs.Occupied.{Has, evicted-has, filled-has, flushed-has}
 use Rattle.runs.specs.Runs.{after, event, stepOf, noteOf}
-use Rattle.runs.proofs.Steps.{step-by, unrefused, done-step}
+use Rattle.runs.proofs.Steps.{step-by, done-step}
 use Rattle.runs.proofs.Laws.{kept-untouched, keeps-step}
 use Rattle.runs.proofs.Checks.{passed-own}
 use Rattle.runs.proofs.Registers as shared
-use Rattle.capacity_model.specs.Rules.{Setup, unitCount, allocSucceeds, ownersAfter}
+use Rattle.capacity_model.specs.Rules.{unitCount, allocSucceeds, ownersAfter}
 use Rattle.capacity_model.specs.Calls.{Call, kindOf, reset, read, write, fill, evict}
 use Rattle.capacity_model.specs.Model.{State, countersAfter, allocWritten, writeAt, unitFilled, fillAllowed, fillWith, unitEvicted, perform, argumentChecks, refusal}
 use Rattle.capacity_model.specs.Model as model
 use Rattle.capacity_model.specs.Ledger.{Ledger, accepted}
 use Rattle.capacity_model.specs.View.{Named}
 use Rattle.capacity_model.specs.Claim.{controller, isReset, book}
-use Rattle.capacity_model.specs.Occupied.{configures, renews, Since, Tells, TellsUnits, Occupied}
+use Rattle.capacity_model.specs.Occupied.{configures, renews, Tells, TellsUnits, Occupied}
 use Rattle.capacity_model.proofs.Setup.{ranges}
 use Rattle.capacity_model.proofs.Steps.{accepting, checking, fill-named, unit-named, write-by}
 use Rattle.capacity_model.proofs.Invariant.{Good, ledgerBy, Inv, keeps}

@@ -84,7 +84,15 @@ pub extern "C" fn cbqri_capacity_fill(
     ensures { λ r. ⌜ reply r (now (allowed .exit) ∷ []) (after «record» masks counters events owners) ≡ stepBytes (before «record» masks counters events owners) (fill rcid mcid at unit) ⌝ }
 {
     let answered = capacity_bytes::fill(
-        record, masks, counters, events, owners, rcid, mcid, at, unit,
+        record,
+        masks,
+        counters,
+        events,
+        owners,
+        rcid,
+        mcid,
+        at,
+        unit,
     );
     *allowed = answered.value;
     answered.number

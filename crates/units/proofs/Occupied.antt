@@ -1,8 +1,8 @@
 -- The count of an MCID whose setting counts every AT follows the units that it owns.
-use mathlib.Core.Path.{_≡_, refl, sym, ap, subst, _∙_}
-use mathlib.Core.Bool.{Bool, true, false, not, cond, _&&_}
+use mathlib.Core.Path.{_≡_, sym, ap, subst, _∙_}
+use mathlib.Core.Bool.{Bool, cond, _&&_}
 use mathlib.Core.List.{List, [], _∷_}
-use Prim.Native.Nat.{ℕ, _+_, _≤_, _<_}
+use Prim.Native.Nat.{ℕ, _+_, _<_}
 use native.Mathlib.Nat.{zero-add}
 use native.Mathlib.Omega.{arith}
 use lib.Dec.{T, eqb, eqb→eq}
@@ -13,7 +13,7 @@ use Rattle.fields.specs.Registers as reg
 use Rattle.monitor.specs.Occupancy.{countsBlock}
 use Rattle.tables.specs.Below.{countOf}
 use Rattle.tables.proofs.Tests.{cases, neqb, cond-yes}
-use Rattle.tables.proofs.Laws.{length-stored, count-cons, count-set, count-le}
+use Rattle.tables.proofs.Laws.{count-cons, count-set, count-le}
 use Rattle.units.specs.Owners.{ownerWord, isOwned, ofMcid, ofRcid, unitsOf, flushedOwners}
 use Rattle.units.specs.Counts.{noted, emptied, refilled, flushed}
 use Rattle.units.proofs.Owners.{free-mcid, word-of}

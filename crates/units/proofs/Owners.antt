@@ -1,7 +1,7 @@
 -- Words of owners: what a fill stores is well formed and reads back; a free unit is nobody's.
 use mathlib.Core.Path.{_≡_, refl, sym, ap}
-use mathlib.Core.Bool.{Bool, true, false, cond, _&&_}
-use mathlib.Core.List.{List, [], _∷_, map}
+use mathlib.Core.Bool.{false, cond, _&&_}
+use mathlib.Core.List.{List, [], _∷_}
 use Prim.Native.Nat.{ℕ, zero, suc, _<_}
 use lib.Dec.{T, ltb, eqb, lt→ltb, lit<}
 use lib.ListN.{length, getD, set}

@@ -1,5 +1,5 @@
 -- What fills, evictions and flushes of units count, in counts of any type: the controller's counters and a tally follow one rule.
-use Rattle.access.specs.Logic.{Bool, List, ℕ, getD, set, if_then_else_, _‼_}
+use Rattle.access.specs.Logic.{List, ℕ, getD, set, if_then_else_, _‼_}
 use mathlib.Core.List.{foldl}
 use Rattle.fields.specs.Layout.{get}
 use Rattle.fields.specs.Registers as reg

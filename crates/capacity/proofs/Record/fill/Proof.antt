@@ -24,12 +24,14 @@ fill-requires c κs =
     let a = f .before .before .before .before .before .before .before .before .before .before .before .before .before .args in
     let p = passes _ (sym (ap verdictOf (f .before .before .before .before .enum-told .given .1)) ∙ f .before .before .before .before .before .before .check .ensures) in
     let n = fill-there _ _ _ (a .at) _ (f .filling .ensures _ _ _ _ _ (sym (ap verdictOf (f .before .before .before .before .enum-told .given .1)) ∙ f .before .before .before .before .before .before .check .ensures) (λ h. rw (f .before .word64 .ensures, f .before .before .pair-at .ensures h))) (c .before .before .before .enum-told2 .given .1) in
-    let r = p .ranges in
-    (record {
-      rcid-low = omega (arith, n .rcid-in, r .nr-high);
-      mcid-low = omega (arith, n .mcid-in, r .nm-high);
-      at-low = omega (arith, c .before .before .known-at .ensures, known-lt (a .self .setup .na) (a .at) (r .na-low), r .na-high);
-    }, counters-ok _ p)
+    let r = p .ranges in (
+      record {
+        rcid-low = omega (arith, n .rcid-in, r .nr-high);
+        mcid-low = omega (arith, n .mcid-in, r .nm-high);
+        at-low = omega (arith, c .before .before .known-at .ensures, known-lt (a .self .setup .na) (a .at) (r .na-low), r .na-high);
+      },
+      counters-ok _ p,
+    )
 
 returns : tie.Need-returns
 returns c = call-failed _ (fill _ _ _ _) tt (c .before .why .given .0 .0) (sym (ap verdictOf (c .before .why .given .1)) ∙ c .before .before .before .check .ensures)

@@ -25,12 +25,14 @@ fill-requires c κs =
     let h = passed-of _ _ _ (f .before .before .before .before .before .before .before .checked .ensures) (f .before .before .before .before .before .held .given .1) in
     let p = passes _ (h .passed) in
     let n = fill-there _ _ _ (a .at) _ (f .filling .ensures _ _ _ _ _ (h .passed) (λ e. rw (f .before .word64 .ensures, f .before .before .pair-at .ensures e))) (c .before .before .before .enum-told .given .1) in
-    let r = p .ranges in
-    (record {
-      rcid-low = omega (arith, n .rcid-in, r .nr-high);
-      mcid-low = omega (arith, n .mcid-in, r .nm-high);
-      at-low = omega (arith, c .before .before .known-at .ensures, known-lt (f .before .before .before .before .before .held .given .0 .0 .setup .na) (a .at) (r .na-low), r .na-high);
-    }, counters-ok _ p)
+    let r = p .ranges in (
+      record {
+        rcid-low = omega (arith, n .rcid-in, r .nr-high);
+        mcid-low = omega (arith, n .mcid-in, r .nm-high);
+        at-low = omega (arith, c .before .before .known-at .ensures, known-lt (f .before .before .before .before .before .held .given .0 .0 .setup .na) (a .at) (r .na-low), r .na-high);
+      },
+      counters-ok _ p,
+    )
 
 returns : tie.Need-returns
 returns c = failed-of _ _ _ (c .before .before .before .checked .ensures) (c .before .why .given .1) (fill _ _ _ _) tt

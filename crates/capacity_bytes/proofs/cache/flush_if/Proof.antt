@@ -1,5 +1,4 @@
 -- `capacity_bytes::cache::flush_if` meets its contract.
-use mathlib.Core.Path.{refl}
 use borrow.Author.Needs.{needs}
 use Rattle.capacity_bytes.proofs.cache.flush_if.Statement.{statement}
 use Rattle.capacity_bytes.proofs.cache.flush_if.Tie as tie
