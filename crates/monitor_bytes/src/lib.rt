@@ -43,7 +43,7 @@ pub fn capacity_counters_ok(t: &[u8], w: u32) -> bool
 }
 
 // How many words a part has that begins at i, before the end of `words` words.
-pub fn part_length(i: usize, words: usize) -> usize
+fn part_length(i: usize, words: usize) -> usize
     requires { ⌜ i < words ⌝ }
     ensures { λ r. ⌜ (1 ≤ r) × ((r ≤ 64) × (i + r ≤ words)) ⌝ }
 {

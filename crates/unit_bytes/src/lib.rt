@@ -1,11 +1,13 @@
 // Units of capacity where owners, counters and counter settings are lent as little-endian bytes: the operations of `unit_tables` on words that are loaded and stored.
 use monitor::counted_fill;
-use monitor_bytes::part_length;
 use unit_tables::emptied_counter;
 use unit_tables::is_of;
+use unit_tables::none_seen;
 use unit_tables::owner_mcid;
 use unit_tables::owner_word;
-use words::load_part32;
+use unit_tables::seen_ok;
+use unit_tables::with_owner;
+use words::load32;
 use words::put32;
 use words::put64;
 use words::word16;
@@ -14,42 +16,28 @@ use words::word64;
 ghost use mathlib.Core.Path.{_≡_};
 ghost use mathlib.Core.Bool.{cond};
 ghost use mathlib.Core.List.{List};
-ghost use Prim.Native.Nat.{ℕ, _+_, _*_, _^_, _≤_, _<_};
+ghost use Prim.Native.Nat.{ℕ, _^_, _≤_, _<_};
 ghost use lib.ListN.{length, getD, set};
 ghost use Rattle.fields.specs.Layout.{get};
 ghost use Rattle.fields.specs.Registers.{capacityCtr};
 ghost use Rattle.tables.specs.Below.{allBelow};
-ghost use Rattle.tables.specs.Parts.{part};
 ghost use Rattle.words.specs.Words.{bytesOfAll, tableOf, Holds};
 ghost use Rattle.monitor.specs.Occupancy.{filled, evicted};
 ghost use Rattle.units.specs.Owners.{ownerWord, ofRcid, ownerOk, flushedOwners};
 ghost use Rattle.units.specs.Counts.{noted, emptied, refilled, flushed};
 ghost use Rattle.unit_tables.specs.View.{Limits, Identifiers, CountersOk};
 
-// Whether n owners from `from` on are well formed.
-fn part_ok(owners: &[u8], from: usize, n: usize, nr: u32, nm: u32, na: u32) -> bool
-    requires { ⌜ Limits nr nm na × ((n ≤ 64) × ((from + n) * 4 ≤ length (now owners))) ⌝ }
-    ensures { λ r. ⌜ r ≡ allBelow n (λ i. ownerOk nr nm na (getD (part from n (tableOf 4 (now (owners .entry)))) i 0)) ⌝ }
-{
-    let mut words = [0u32; 64];
-    load_part32(owners, from, &mut words[..n]);
-    unit_tables::owners_ok(&words[..n], nr, nm, na)
-}
-
 // Whether every owner is well formed.
 pub fn owners_ok(owners: &[u8], nr: u32, nm: u32, na: u32) -> bool
     requires { ⌜ Limits nr nm na ⌝ }
     ensures { λ r. ⌜ r ≡ allBelow (length (tableOf 4 (now (owners .entry)))) (λ i. ownerOk nr nm na (getD (tableOf 4 (now (owners .entry))) i 0)) ⌝ }
 {
-    let words = owners.len() / 4;
-    let mut ok = true;
-    let mut i = 0usize;
-    while i < words {
-        let n = part_length(i, words);
-        ok = ok & part_ok(owners, i, n, nr, nm, na);
-        i = i + n;
+    let mut seen = none_seen();
+    for i in 0..owners.len() / 4 {
+        let owner = load32(owners, i * 4) as u32;
+        seen = with_owner(seen, owner, nr, nm, na);
     }
-    ok
+    seen_ok(seen, nr, nm, na)
 }
 
 // Counts an emptied unit for its owner.

@@ -1,9 +1,19 @@
-// Check 3 over the owners: a loop without an exit, which the compiler vectorises.
+// Check 3 over the owners: what all of them have is joined word by word, without an exit, so that the compiler vectorises the loop, and tested at the end.
 ghost use mathlib.Core.Path.{_≡_};
+ghost use Prim.Native.Nat.{ℕ, _+_};
 ghost use lib.ListN.{length, getD};
 ghost use Rattle.tables.specs.Below.{allBelow};
 ghost use Rattle.units.specs.Owners.{ownerOk};
 ghost use Rattle.unit_tables.specs.View.{Limits, notOwned};
+ghost use Rattle.unit_tables.specs.Seen.{SeenBelow};
+
+// Unions over owners: RCID and AT, and the MCID, each with what lacks to the end of its field added; the words that are not owned; all words.
+pub struct Seen {
+    pub rcids_ats: u32,
+    pub mcids: u32,
+    pub free: u32,
+    pub whole: u32,
+}
 
 // The word of a unit that is not owned, 0 for any other.
 fn not_owned(owner: u32) -> u32
@@ -12,27 +22,53 @@ fn not_owned(owner: u32) -> u32
     if owner >> 19 == 0 { owner } else { 0 }
 }
 
-// Whether every owner is well formed: an identifier out of range, with what lacks to the end of its field added, carries into the bit above it.
+// Of no owner.
+pub fn none_seen() -> Seen
+    ensures { λ r. ⌜ ((nr nm na : ℕ) (f : ℕ → ℕ) → SeenBelow nr nm na 0 f r) ⌝ }
+{
+    Seen {
+        rcids_ats: 0,
+        mcids: 0,
+        free: 0,
+        whole: 0,
+    }
+}
+
+// With one owner more.
+pub fn with_owner(seen: Seen, owner: u32, nr: u32, nm: u32, na: u32) -> Seen
+    requires { ⌜ Limits nr nm na ⌝ }
+    ensures { λ r. ⌜ ((n : ℕ) (f : ℕ → ℕ) → SeenBelow nr nm na n f seen → owner ≡ f n → SeenBelow nr nm na (n + 1) f r) ⌝ }
+{
+    let rcid_at = (256 - nr) + (8 - na) * 65536;
+    let mcid = (256 - nm) * 256;
+    Seen {
+        rcids_ats: seen.rcids_ats | ((owner & 0x700ff) + rcid_at),
+        mcids: seen.mcids | ((owner & 0xff00) + mcid),
+        free: seen.free | not_owned(owner),
+        whole: seen.whole | owner,
+    }
+}
+
+// Whether each is well formed: an identifier out of range carried into the bit above its field.
+pub fn seen_ok(seen: Seen, nr: u32, nm: u32, na: u32) -> bool
+    requires { ⌜ Limits nr nm na ⌝ }
+    ensures { λ r. ⌜ ((n : ℕ) (f : ℕ → ℕ) → SeenBelow nr nm na n f seen → r ≡ allBelow n (λ i. ownerOk nr nm na (f i))) ⌝ }
+{
+    ((seen.rcids_ats >> 8) % 2 == 0)
+        & ((seen.rcids_ats >> 19) % 2 == 0)
+        & ((seen.mcids >> 16) % 2 == 0)
+        & (seen.free == 0)
+        & (seen.whole >> 20 == 0)
+}
+
+// Whether every owner is well formed.
 pub fn owners_ok(owners: &[u32], nr: u32, nm: u32, na: u32) -> bool
     requires { ⌜ Limits nr nm na ⌝ }
     ensures { λ r. ⌜ r ≡ allBelow (length (now (owners .entry))) (λ i. ownerOk nr nm na (getD (now (owners .entry)) i 0)) ⌝ }
 {
-    let rcid_at = (256 - nr) + (8 - na) * 65536;
-    let mcid = (256 - nm) * 256;
-    let mut rcids_ats = 0u32;
-    let mut mcids = 0u32;
-    let mut free = 0u32;
-    let mut whole = 0u32;
+    let mut seen = none_seen();
     for i in 0..owners.len() {
-        let owner = owners[i];
-        rcids_ats = rcids_ats | ((owner & 0x700ff) + rcid_at);
-        mcids = mcids | ((owner & 0xff00) + mcid);
-        free = free | not_owned(owner);
-        whole = whole | owner;
+        seen = with_owner(seen, owners[i], nr, nm, na);
     }
-    ((rcids_ats >> 8) % 2 == 0)
-        & ((rcids_ats >> 19) % 2 == 0)
-        & ((mcids >> 16) % 2 == 0)
-        & (free == 0)
-        & (whole >> 20 == 0)
+    seen_ok(seen, nr, nm, na)
 }

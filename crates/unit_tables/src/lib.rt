@@ -2,7 +2,10 @@
 mod checks;
 mod owner;
 
+pub use checks::none_seen;
 pub use checks::owners_ok;
+pub use checks::seen_ok;
+pub use checks::with_owner;
 use monitor::counted_fill;
 pub use owner::emptied_counter;
 pub use owner::is_of;
