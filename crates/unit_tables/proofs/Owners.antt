@@ -2,9 +2,9 @@
 use mathlib.Core.Path.{_≡_, refl, sym, ap, _∙_}
 use mathlib.Core.Bool.{Bool, true, false, cond, _&&_, _||_}
 use mathlib.Core.List.{[], _∷_}
-use Prim.Native.Nat.{ℕ, _+_, _-_, _*_, _/_, _%_, _^_}
+use Prim.Native.Nat.{ℕ, _+_, _-_, _*_, _/_, _%_, _^_, _≤_, _<_}
 use native.Mathlib.Omega.{arith}
-use lib.Bits.{bitAnd}
+use lib.Bits.{bitAnd, and-mask}
 use lib.Dec.{T, ltb, eqb, eqb→eq, ltb→lt, lt→ltb, lit≤}
 use lib.Pow.{shr-shr, shl-shr}
 use Rattle.fields.specs.Layout.{get}
@@ -16,7 +16,7 @@ use Rattle.tables.proofs.Tests.{cases, and-l, and-r, and-in, or-else, or-l, or-
 use Rattle.tables.proofs.Laws.{all-at, all-in, all-same}
 use Rattle.tables.proofs.Union.{union-mod, union-shr, none-in-union}
 use Rattle.units.specs.Owners.{ownerWord, ownerOk}
-use Rattle.unit_tables.specs.View.{rcidAtPlus, mcidPlus, notOwned, Limits}
+use Rattle.unit_tables.specs.View.{rcidAtPlus, mcidPlus, markPlus, Limits}
 
 -- ---- unions
 
@@ -66,6 +66,14 @@ rcidAtLack nr na = 256 - nr + (8 - na) * 65536
 abbrev pub mcidLack : ℕ → ℕ
 mcidLack nm = (256 - nm) * 256
 
+-- below the mark, only 0 does not carry
+below-mark : (o m : ℕ) → o < 524288 → m ≡ (o % 1048576 + 524288) % 1048576 + 524287 → m / 1048576 % 2 ≡ 0 → o ≡ 0
+below-mark o m l e z = let k : m ≡ o + 1048575 = omega arith in omega (arith, k, l, z)
+
+-- from it on, no word of 20 bits does
+above-mark : (o m : ℕ) → 524288 ≤ o → o < 1048576 → m ≡ (o % 1048576 + 524288) % 1048576 + 524287 → m / 1048576 % 2 ≡ 0
+above-mark o m l b e = let k : m + 1 ≡ o = omega arith in omega (arith, k, b)
+
 module _ (nr nm na : ℕ) (h : Limits nr nm na) (o : ℕ) where
   rcid-at-is : bitAnd o 0x700ff ≡ o / 65536 % 8 * 65536 + o % 256
   rcid-at-is = sym (pack-unpack (reg.ownerAt ∷ reg.ownerRcid ∷ []) 19 o (lit≤ tt, (lit≤ tt, tt))) ∙ omega arith
@@ -103,25 +111,26 @@ module _ (nr nm na : ℕ) (h : Limits nr nm na) (o : ℕ) where
       (same-test (eqb x 0) (ltb (get reg.ownerMcid o) nm) (λ t. lt→ltb (get reg.ownerMcid o) nm (omega (arith, eqb→eq x 0 t)))
       (λ t. eqb-in x 0 (omega (arith, ltb→lt (get reg.ownerMcid o) nm t))))
 
+  mark-is : markPlus o ≡ (o % 1048576 + 524288) % 1048576 + 524287
+  unfolding markPlus
+  mark-is = ap (λ (x : ℕ). bitAnd (x + 524288) 1048575 + 524287) (and-mask o 20) ∙ ap (λ (x : ℕ). x + 524287) (and-mask (o % 1048576 + 524288) 20)
+
   -- a word is 0, or it has the mark of an owner and nothing above it
-  owned-test : (eqb (notOwned o) 0 && eqb (o / 1048576) 0) ≡ (eqb o 0 || eqb o (ownerWord (get reg.ownerRcid o) (get reg.ownerMcid o) (get reg.ownerAt o)))
-  unfolding notOwned ownerWord
+  owned-test : (eqb (markPlus o / 1048576 % 2) 0 && eqb (o / 1048576) 0) ≡ (eqb o 0 || eqb o (ownerWord (get reg.ownerRcid o) (get reg.ownerMcid o) (get reg.ownerAt o)))
+  unfolding ownerWord
   owned-test =
       let w = ownerWord (get reg.ownerRcid o) (get reg.ownerMcid o) (get reg.ownerAt o) in
-      let u = notOwned o in
+      let u = markPlus o / 1048576 % 2 in
       same-test (eqb u 0 && eqb (o / 1048576) 0) (eqb o 0 || eqb o w)
       (λ t. let top = eqb→eq (o / 1048576) 0 (and-r (eqb u 0) (eqb (o / 1048576) 0) t) in
       let e = eqb→eq u 0 (and-l (eqb u 0) (eqb (o / 1048576) 0) t) in
       cases (λ b. T (eqb o 0 || eqb o w)) (eqb (o / 524288) 0)
-      (λ y. or-l (eqb o 0) (eqb o w) (eqb-in o 0 (sym (cond-yes (eqb (o / 524288) 0) o 0 y) ∙ e)))
+      (λ y. or-l (eqb o 0) (eqb o w) (eqb-in o 0 (below-mark o (markPlus o) (omega (arith, eqb→eq (o / 524288) 0 y)) mark-is e)))
       (λ n. or-r (eqb o 0) (eqb o w) (eqb-in o w (omega (arith, neqb (o / 524288) 0 n)))))
       (λ t. or-else (eqb o 0) (eqb o w) t
-      (λ z. let e = eqb→eq o 0 z in
-      and-in (eqb u 0) (eqb (o / 1048576) 0)
-      (eqb-in u 0 (cases (λ b. cond b o 0 ≡ 0) (eqb (o / 524288) 0) (λ y. e) (λ n. refl))) (eqb-in (o / 1048576) 0 (omega arith)))
+      (λ z. let e = eqb→eq o 0 z in and-in (eqb u 0) (eqb (o / 1048576) 0) (eqb-in u 0 (omega (arith, mark-is))) (eqb-in (o / 1048576) 0 (omega arith)))
       (λ z. let e = eqb→eq o w z in
-      and-in (eqb u 0) (eqb (o / 1048576) 0)
-      (eqb-in u 0 (cond-no (eqb (o / 524288) 0) o 0 (neqb-in (o / 524288) 0 (λ q. omega arith)))) (eqb-in (o / 1048576) 0 (omega arith))))
+      and-in (eqb u 0) (eqb (o / 1048576) 0) (eqb-in u 0 (above-mark o (markPlus o) (omega arith) (omega arith) mark-is)) (eqb-in (o / 1048576) 0 (omega arith))))
 
   zero-fields : T (eqb o 0) → T (ltb (get reg.ownerRcid o) nr && ltb (get reg.ownerMcid o) nm && ltb (get reg.ownerAt o) na)
   zero-fields z =
@@ -134,31 +143,31 @@ module _ (nr nm na : ℕ) (h : Limits nr nm na) (o : ℕ) where
 
   -- the tests in the order of the code
   word-test : (eqb (rcidAtPlus (rcidAtLack nr na) o / 256 % 2) 0 && eqb (rcidAtPlus (rcidAtLack nr na) o / 524288 % 2) 0
-      && eqb (mcidPlus (mcidLack nm) o / 65536 % 2) 0 && eqb (notOwned o) 0 && eqb (o / 1048576) 0)
+      && eqb (mcidPlus (mcidLack nm) o / 65536 % 2) 0 && eqb (markPlus o / 1048576 % 2) 0 && eqb (o / 1048576) 0)
       ≡ ownerOk nr nm na o
   unfolding ownerOk
   word-test =
       rw (rcid-test, at-test, mcid-test)
-      (regroup (ltb (get reg.ownerRcid o) nr) (ltb (get reg.ownerAt o) na) (ltb (get reg.ownerMcid o) nm) (eqb (notOwned o) 0) (eqb (o / 1048576) 0)
+      (regroup (ltb (get reg.ownerRcid o) nr) (ltb (get reg.ownerAt o) na) (ltb (get reg.ownerMcid o) nm) (eqb (markPlus o / 1048576 % 2) 0) (eqb (o / 1048576) 0)
       (eqb o 0) (eqb o (ownerWord (get reg.ownerRcid o) (get reg.ownerMcid o) (get reg.ownerAt o))) owned-test zero-fields)
 
 -- ---- all words
 
 module _ (nr nm na : ℕ) (h : Limits nr nm na) (n : ℕ) (f : ℕ → ℕ) where
   pub words-test : (a b c d : ℕ) → a ≡ unionBelow n (λ i. rcidAtPlus (rcidAtLack nr na) (f i)) → b ≡ unionBelow n (λ i. mcidPlus (mcidLack nm) (f i))
-      → c ≡ unionBelow n (λ i. notOwned (f i)) → d ≡ unionBelow n f
-      → (eqb (a / 256 % 2) 0 && eqb (a / 524288 % 2) 0 && eqb (b / 65536 % 2) 0 && eqb c 0 && eqb (d / 1048576) 0) ≡ allBelow n (λ i. ownerOk nr nm na (f i))
+      → c ≡ unionBelow n (λ i. markPlus (f i)) → d ≡ unionBelow n f
+      → (eqb (a / 256 % 2) 0 && eqb (a / 524288 % 2) 0 && eqb (b / 65536 % 2) 0 && eqb (c / 1048576 % 2) 0 && eqb (d / 1048576) 0) ≡ allBelow n (λ i. ownerOk nr nm na (f i))
   words-test a b c d ea eb ec ed =
       let x : ℕ → ℕ = λ i. rcidAtPlus (rcidAtLack nr na) (f i) in
       let y : ℕ → ℕ = λ i. mcidPlus (mcidLack nm) (f i) in
-      let z : ℕ → ℕ = λ i. notOwned (f i) in
+      let z : ℕ → ℕ = λ i. markPlus (f i) in
       let p : ℕ → Bool = λ i. eqb (x i / 256 % 2) 0 in
       let q : ℕ → Bool = λ i. eqb (x i / 524288 % 2) 0 in
       let r : ℕ → Bool = λ i. eqb (y i / 65536 % 2) 0 in
-      let s : ℕ → Bool = λ i. eqb (z i) 0 in
+      let s : ℕ → Bool = λ i. eqb (z i / 1048576 % 2) 0 in
       let t : ℕ → Bool = λ i. eqb (f i / 1048576) 0 in
       rw (ea, eb, ec, ed)
-      (rw (field-none 8 1 n x, field-none 19 1 n x, field-none 16 1 n y, none-in-union n z s (λ i l. refl), high-none 20 n f)
+      (rw (field-none 8 1 n x, field-none 19 1 n x, field-none 16 1 n y, field-none 20 1 n z, high-none 20 n f)
       (ap (λ (v : Bool). v && allBelow n r && allBelow n s && allBelow n t) (all-and n p q)
       ∙ ap (λ (v : Bool). v && allBelow n s && allBelow n t) (all-and n (λ i. p i && q i) r)
       ∙ ap (λ (v : Bool). v && allBelow n t) (all-and n (λ i. p i && q i && r i) s)

@@ -36,6 +36,6 @@ rcidAtPlus k owner = bitAnd owner 0x700ff + k
 unfoldable pub mcidPlus : ℕ → ℕ → ℕ
 mcidPlus k owner = bitAnd owner 0xff00 + k
 
--- the word of a unit that is not owned, 0 for any other
-unfoldable pub notOwned : ℕ → ℕ
-notOwned owner = cond (eqb (owner / 524288) 0) owner 0
+-- the low 20 bits with the mark of an owner turned, and what lacks from it to bit 20 added: those of a word that is neither 0 nor owned carry into bit 20
+unfoldable pub markPlus : ℕ → ℕ
+markPlus owner = bitAnd (bitAnd owner 0xfffff + 0x80000) 0xfffff + 0x7ffff

@@ -4,22 +4,22 @@ ghost use Prim.Native.Nat.{ℕ, _+_};
 ghost use lib.ListN.{length, getD};
 ghost use Rattle.tables.specs.Below.{allBelow};
 ghost use Rattle.units.specs.Owners.{ownerOk};
-ghost use Rattle.unit_tables.specs.View.{Limits, notOwned};
+ghost use Rattle.unit_tables.specs.View.{Limits, markPlus};
 ghost use Rattle.unit_tables.specs.Seen.{SeenBelow};
 
-// Unions over owners: RCID and AT, and the MCID, each with what lacks to the end of its field added; the words that are not owned; all words.
+// Unions over owners: RCID and AT, and the MCID, each with what lacks to the end of its field added; the mark of an owner likewise; all words.
 pub struct Seen {
     pub rcids_ats: u32,
     pub mcids: u32,
-    pub free: u32,
+    pub marks: u32,
     pub whole: u32,
 }
 
-// The word of a unit that is not owned, 0 for any other.
-fn not_owned(owner: u32) -> u32
-    ensures { λ r. ⌜ r ≡ notOwned owner ⌝ }
+// Bit 20 of it is set where the low 20 bits of a word are neither 0 nor owned; a comparison here would keep the compiler from loading a word of bytes at once.
+fn mark_plus(owner: u32) -> u32
+    ensures { λ r. ⌜ r ≡ markPlus owner ⌝ }
 {
-    if owner >> 19 == 0 { owner } else { 0 }
+    (((owner & 0xfffff) + 0x80000) & 0xfffff) + 0x7ffff
 }
 
 // Of no owner.
@@ -29,7 +29,7 @@ pub fn none_seen() -> Seen
     Seen {
         rcids_ats: 0,
         mcids: 0,
-        free: 0,
+        marks: 0,
         whole: 0,
     }
 }
@@ -44,12 +44,12 @@ pub fn with_owner(seen: Seen, owner: u32, nr: u32, nm: u32, na: u32) -> Seen
     Seen {
         rcids_ats: seen.rcids_ats | ((owner & 0x700ff) + rcid_at),
         mcids: seen.mcids | ((owner & 0xff00) + mcid),
-        free: seen.free | not_owned(owner),
+        marks: seen.marks | mark_plus(owner),
         whole: seen.whole | owner,
     }
 }
 
-// Whether each is well formed: an identifier out of range carried into the bit above its field.
+// Whether each is well formed: what is out of range carried into the bit above its field.
 pub fn seen_ok(seen: Seen, nr: u32, nm: u32, na: u32) -> bool
     requires { ⌜ Limits nr nm na ⌝ }
     ensures { λ r. ⌜ ((n : ℕ) (f : ℕ → ℕ) → SeenBelow nr nm na n f seen → r ≡ allBelow n (λ i. ownerOk nr nm na (f i))) ⌝ }
@@ -57,7 +57,7 @@ pub fn seen_ok(seen: Seen, nr: u32, nm: u32, na: u32) -> bool
     ((seen.rcids_ats >> 8) % 2 == 0)
         & ((seen.rcids_ats >> 19) % 2 == 0)
         & ((seen.mcids >> 16) % 2 == 0)
-        & (seen.free == 0)
+        & ((seen.marks >> 20) % 2 == 0)
         & (seen.whole >> 20 == 0)
 }
 

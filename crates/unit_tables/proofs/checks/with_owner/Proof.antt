@@ -20,7 +20,7 @@ returns c =
     record {
       rcids-ats-are = rw (union-next, ← s .rcids-ats-are, ← e);
       mcids-are = rw (union-next, ← s .mcids-are, ← e);
-      free-are = rw (union-next, ← s .free-are, c .before .before .not-owned .ensures, ← e);
+      marks-are = rw (union-next, ← s .marks-are, c .before .before .mark-plus .ensures, ← e);
       whole-are = rw (union-next, ← s .whole-are, ← e);
     }
 
