@@ -1,6 +1,6 @@
 -- Owners tested all at once: the unions of what is computed of each word tell whether every word is well formed.
 use mathlib.Core.Path.{_≡_, refl, sym, ap, _∙_}
-use mathlib.Core.Bool.{Bool, true, false, cond, _&&_, _||_}
+use mathlib.Core.Bool.{Bool, true, false, _&&_, _||_}
 use mathlib.Core.List.{[], _∷_}
 use Prim.Native.Nat.{ℕ, _+_, _-_, _*_, _/_, _%_, _^_, _≤_, _<_}
 use native.Mathlib.Omega.{arith}
@@ -12,7 +12,7 @@ use Rattle.fields.specs.Registers as reg
 use Rattle.fields.proofs.Laws.{pack-unpack}
 use Rattle.tables.specs.Below.{allBelow}
 use Rattle.tables.specs.View.{unionBelow}
-use Rattle.tables.proofs.Tests.{cases, and-l, and-r, and-in, or-else, or-l, or-r, same-test, eqb-in, neqb, neqb-in, cond-yes, cond-no}
+use Rattle.tables.proofs.Tests.{cases, and-l, and-r, and-in, or-else, or-l, or-r, same-test, eqb-in, neqb}
 use Rattle.tables.proofs.Laws.{all-at, all-in, all-same}
 use Rattle.tables.proofs.Union.{union-mod, union-shr, none-in-union}
 use Rattle.units.specs.Owners.{ownerWord, ownerOk}

@@ -1,9 +1,8 @@
 -- What checks 1, 3 and 7 leave, and what check 3 computes of each owner.
-use mathlib.Core.Bool.{cond}
 use mathlib.Core.List.{List}
-use Prim.Native.Nat.{ℕ, _+_, _/_, _≤_, _<_}
+use Prim.Native.Nat.{ℕ, _+_, _≤_, _<_}
 use lib.Bits.{bitAnd}
-use lib.Dec.{T, eqb}
+use lib.Dec.{T}
 use lib.ListN.{getD}
 use Rattle.fields.specs.Registers as reg
 use Rattle.monitor.specs.Monitor.{counterOk}

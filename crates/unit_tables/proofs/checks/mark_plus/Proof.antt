@@ -1,7 +1,6 @@
 -- `unit_tables::checks::mark_plus` meets its contract.
 use mathlib.Core.Path.{refl}
 use native.Mathlib.Omega.{arith}
-use borrow.Author.Needs.{needs}
 use lib.Bits.{bitAnd, and-le-r}
 use Prim.Native.Nat.{_+_}
 use Rattle.unit_tables.specs.View.{markPlus}
