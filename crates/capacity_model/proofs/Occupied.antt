@@ -24,7 +24,7 @@ use Rattle.codes.specs.declared.CapacityEvent.the-variants.{Occupancy}
 use Rattle.codes.proofs.Rows.{code-of}
 use Rattle.allocation.specs.Allocation.{rcidOf}
 use Rattle.monitor.specs.Monitor.{mcidOf, eventOf, atvOf, monSucceeds, settingOf, writeMon, matchesAt}
-use Rattle.monitor.specs.Occupancy.{countsBlock, occupancyWord, filled, evicted}
+use Rattle.monitor.specs.Occupancy.{countsUnit, occupancyWord, filled, evicted}
 use Rattle.monitor.proofs.Operations.{done-mcid}
 use Rattle.monitor.proofs.Occupancy.{word-invalid, word-ctr}
 use Rattle.units.specs.Owners.{unitsOf, flushedOwners}
@@ -83,7 +83,7 @@ at-other P b t i j x d p = cases (λ y. (T y → j ≡ i → ⊥) → P (getD (c
 
 -- the setting counts every AT
 abbrev All : ℕ → List ℕ → Type 0
-All mcid settings = (at : ℕ) → T (countsBlock (getD settings mcid 0) at)
+All mcid settings = (at : ℕ) → T (countsUnit (getD settings mcid 0) at)
 
 pub record Track (mcid : ℕ) (s : State) : Type 0 where
   pub all : All mcid (s .monitor .events)
@@ -143,7 +143,7 @@ module _ (mcid : ℕ) {s : State} (g : Good s) (k : Track mcid s) where
       let clears = not (noEvent has eventOf v) in
       let of-other : T sets → mcid ≡ mcidOf v → ⊥ = λ y e. not-both (eqb (mcidOf v) mcid) (eqb-in (mcidOf v) mcid (sym e)) (nand-r sets (eqb (mcidOf v) mcid) t y) in
       record {
-        all = λ at. at-other (λ x. T (countsBlock x at)) sets (m .events) (mcidOf v) mcid _ of-other (k .all at);
+        all = λ at. at-other (λ x. T (countsUnit x at)) sets (m .events) (mcidOf v) mcid _ of-other (k .all at);
         counts = record {
           known = rw (length-stored (sets && clears) (m .counters) (mcidOf v) 0) (k .counts .known);
           count = at-other (Exact (s .setup .w) (unitsOf mcid (s .owners))) (sets && clears) (m .counters) (mcidOf v) mcid 0 (λ y. of-other (and-l sets clears y)) (k .counts .count);
@@ -175,8 +175,8 @@ step-tracked mcid s l i k c =
     (λ e t. k)
 
 -- the setting with event Occupancy and ATV 0 counts every AT
-setting-all : (na v : ℕ) → T (capacityEvents Occupancy has eventOf v) → atvOf na v ≡ 0 → (at : ℕ) → T (countsBlock (settingOf na v) at)
-unfolding settingOf countsBlock matchesAt capacityEvents _has_ between
+setting-all : (na v : ℕ) → T (capacityEvents Occupancy has eventOf v) → atvOf na v ≡ 0 → (at : ℕ) → T (countsUnit (settingOf na v) at)
+unfolding settingOf countsUnit matchesAt capacityEvents _has_ between
 setting-all na v o z at = rw (code-of 1 (eventOf v) o, z) tt
 
 -- configured, it tells that its MCID owns no unit
@@ -191,7 +191,7 @@ configured {s} g v d o z n =
     let low = done-mcid (su .na) (su .nm) Capacity ConfigEvent v d in
     let some : T clears = rw (code-of 1 (eventOf v) o) tt in
     record {
-      all = λ at. at-same (λ x. T (countsBlock x at)) sets (m .events) (mcidOf v) _ d (rw (g .monitor .events-long) low) (setting-all (su .na) v o z at);
+      all = λ at. at-same (λ x. T (countsUnit x at)) sets (m .events) (mcidOf v) _ d (rw (g .monitor .events-long) low) (setting-all (su .na) v o z at);
       counts = record {
         known = rw (length-stored (sets && clears) (m .counters) (mcidOf v) 0, g .monitor .counters-long) low;
         count =

@@ -4,7 +4,7 @@ use Rattle.codes.specs.Codes.{_has_, noEvent}
 use Rattle.codes.specs.declared.Resource.{Resource}
 use Rattle.codes.specs.declared.MonOp.{MonOp}
 use Rattle.codes.specs.declared.MonOp.the-variants.{ConfigEvent, ReadCounter}
-use Rattle.monitor.specs.Monitor.{mcidOf, eventOf, monSucceeds, settingOf}
+use Rattle.monitor.specs.Monitor.{mcidOf, eventOf, monSucceeds, settingOf, changedAt}
 
 -- how a controller with a set-up of type U counts: NA, NM and its resource; nothing counted, and the counter of a count
 pub record Counter (U K : Type 0) : Type 0 where
@@ -40,7 +40,6 @@ module _ {U K : Type 0} (r : Counter U K) where
         shown = if ends ReadCounter then r .word (t .setup) (getD (t .counts) (mcidOf v) (r .none)) else t .shown;
       }
 
-  -- the count of an MCID changes where its setting matches
+  -- the tally's counts change as the controller's counters do
   unfoldable pub tallied : (ℕ → Bool) → Tally U K → ℕ → (K → K) → Tally U K
-  tallied matches t mcid change =
-      withCounts t (if matches (t .settings ‼ mcid) then set (t .counts) mcid (change (getD (t .counts) mcid (r .none))) else t .counts)
+  tallied matches t mcid change = withCounts t (changedAt (r .none) (matches (t .settings ‼ mcid)) change (t .counts) mcid)

@@ -101,9 +101,9 @@ requests setting at kind =
     let event = get reg.settingEvent setting in
     rw (← single-test 1 event, ← single-test 2 event, ← single-test 3 event) refl
 
-blocks : (setting at : ℕ) → occupancy.countsBlock setting at ≡ number.countsBlock setting at
-unfolding occupancy.countsBlock capacityEvents number.countsBlock
-blocks setting at = rw (← single-test 1 (get reg.settingEvent setting)) refl
+units : (setting at : ℕ) → occupancy.countsUnit setting at ≡ number.countsUnit setting at
+unfolding occupancy.countsUnit capacityEvents number.countsUnit
+units setting at = rw (← single-test 1 (get reg.settingEvent setting)) refl
 
 pub by-number : number.ByNumber
-by-number = record { status = status; table = table; operand = operand; flush = flush; monStatus = mon-status; monitor = monitor; settings = settings; requests = requests; blocks = blocks }
+by-number = record { status = status; table = table; operand = operand; flush = flush; monStatus = mon-status; monitor = monitor; settings = settings; requests = requests; units = units }

@@ -85,8 +85,8 @@ countsRequest setting at kind =
     let event = get reg.settingEvent setting in
     (event == 1 || (event == 2 && kind == 0) || (event == 3 && not (kind == 0))) && mon.matchesAt setting at
 
-unfoldable pub countsBlock : ℕ → ℕ → Bool
-countsBlock setting at = get reg.settingEvent setting == 1 && mon.matchesAt setting at
+unfoldable pub countsUnit : ℕ → ℕ → Bool
+countsUnit setting at = get reg.settingEvent setting == 1 && mon.matchesAt setting at
 
 -- ---- for every value written, set-up and table: STATUS, what the operation leaves, check 3 over counter settings, and what they count
 pub record ByNumber : Type 0 where
@@ -101,4 +101,4 @@ pub record ByNumber : Type 0 where
   pub monitor : (na nm : ℕ) (resource : Resource) (m : mon.Monitor) (v : ℕ) → mon.writeMon na nm resource m v ≡ writeMon na nm resource m v
   pub settings : (na : ℕ) (resource : Resource) (s : ℕ) → mon.settingOk na resource s ≡ settingOk na resource s
   pub requests : (setting at kind : ℕ) → bytes.countsRequest setting at kind ≡ countsRequest setting at kind
-  pub blocks : (setting at : ℕ) → occupancy.countsBlock setting at ≡ countsBlock setting at
+  pub units : (setting at : ℕ) → occupancy.countsUnit setting at ≡ countsUnit setting at

@@ -6,7 +6,7 @@ ghost use mathlib.Core.Path.{_≡_};
 ghost use mathlib.Core.Bool.{cond, _&&_};
 ghost use Rattle.fields.specs.Layout.{get};
 ghost use Rattle.fields.specs.Registers.{ownerMcid, ownerAt};
-ghost use Rattle.monitor.specs.Occupancy.{countsBlock, evicted};
+ghost use Rattle.monitor.specs.Occupancy.{countsUnit, evicted};
 ghost use Rattle.units.specs.Owners.{ownerWord, isOwned, ofRcid};
 ghost use Rattle.unit_tables.specs.View.{Identifiers};
 
@@ -41,7 +41,7 @@ pub fn is_of(owner: u32, rcid: u64) -> bool
 
 // The counter of a unit's owner after the unit is emptied; a free unit counts for nobody.
 pub fn emptied_counter(owner: u32, counter: u64, setting: u16) -> u64
-    ensures { λ r. ⌜ r ≡ cond (isOwned owner && countsBlock setting (get ownerAt owner)) (evicted counter) counter ⌝ }
+    ensures { λ r. ⌜ r ≡ cond (isOwned owner && countsUnit setting (get ownerAt owner)) (evicted counter) counter ⌝ }
 {
     let owner = Owner::unpack(owner as u64);
     pick(

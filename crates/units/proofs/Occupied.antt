@@ -10,7 +10,7 @@ use lib.ListN.{length, getD, set, length-set}
 use lib.Seq.{getD-set-same, getD-set-other}
 use Rattle.fields.specs.Layout.{get}
 use Rattle.fields.specs.Registers as reg
-use Rattle.monitor.specs.Occupancy.{countsBlock}
+use Rattle.monitor.specs.Occupancy.{countsUnit}
 use Rattle.tables.specs.Below.{countOf}
 use Rattle.tables.proofs.Tests.{cases, neqb, cond-yes}
 use Rattle.tables.proofs.Laws.{count-cons, count-set, count-le}
@@ -19,7 +19,7 @@ use Rattle.units.specs.Counts.{noted, emptied, refilled, flushed}
 use Rattle.units.proofs.Owners.{free-mcid, word-of}
 
 -- P n c: the count c is of n units
-module _ {C : Type 0} (none : C) (settings : List ℕ) (P : ℕ → C → Type 0) (mcid : ℕ) (all : (at : ℕ) → T (countsBlock (getD settings mcid 0) at)) where
+module _ {C : Type 0} (none : C) (settings : List ℕ) (P : ℕ → C → Type 0) (mcid : ℕ) (all : (at : ℕ) → T (countsUnit (getD settings mcid 0) at)) where
   -- the MCID has a count, which is of n units
   pub record Has (n : ℕ) (counts : List C) : Type 0 where
     pub known : mcid < length counts
@@ -28,7 +28,7 @@ module _ {C : Type 0} (none : C) (settings : List ℕ) (P : ℕ → C → Type 0
   own : (n k : ℕ) (change : C → C) (counts : List C) (at : ℕ) → ((c : C) → P n c → P k (change c)) → Has n counts → Has k (noted none settings change counts mcid at)
   unfolding noted
   own n k change counts at f h =
-      rw (cond-yes (countsBlock (getD settings mcid 0) at) (set counts mcid (change (getD counts mcid none))) counts (all at))
+      rw (cond-yes (countsUnit (getD settings mcid 0) at) (set counts mcid (change (getD counts mcid none))) counts (all at))
       (record {
         known = rw (length-set counts mcid (change (getD counts mcid none))) (h .known);
         count = rw (getD-set-same counts mcid (change (getD counts mcid none)) none (h .known)) (f (getD counts mcid none) (h .count));
@@ -37,7 +37,7 @@ module _ {C : Type 0} (none : C) (settings : List ℕ) (P : ℕ → C → Type 0
   other : (n : ℕ) (change : C → C) (counts : List C) (m at : ℕ) → (mcid ≡ m → ⊥) → Has n counts → Has n (noted none settings change counts m at)
   unfolding noted
   other n change counts m at d h =
-      cases (λ b. Has n (cond b (set counts m (change (getD counts m none))) counts)) (countsBlock (getD settings m 0) at)
+      cases (λ b. Has n (cond b (set counts m (change (getD counts m none))) counts)) (countsUnit (getD settings m 0) at)
       (λ y. record {
         known = rw (length-set counts m (change (getD counts m none))) (h .known);
         count = rw (getD-set-other counts m mcid (change (getD counts m none)) none d) (h .count);

@@ -1,16 +1,17 @@
 -- What fills, evictions and flushes of units count, in counts of any type: the controller's counters and a tally follow one rule.
-use Rattle.access.specs.Logic.{List, ℕ, getD, set, if_then_else_, _‼_}
+use Rattle.access.specs.Logic.{List, ℕ, if_then_else_, _‼_}
 use mathlib.Core.List.{foldl}
 use Rattle.fields.specs.Layout.{get}
 use Rattle.fields.specs.Registers as reg
-use Rattle.monitor.specs.Occupancy.{countsBlock}
+use Rattle.monitor.specs.Monitor.{changedAt}
+use Rattle.monitor.specs.Occupancy.{countsUnit}
 use Rattle.units.specs.Owners.{isOwned, ofRcid}
 
 -- a count of none, and the counter settings
 module _ {C : Type 0} (none : C) (settings : List ℕ) where
-  -- the count of an MCID changes where its setting matches the AT
+  -- a unit of this AT counts for an MCID
   unfoldable pub noted : (C → C) → List C → ℕ → ℕ → List C
-  noted change counts mcid at = if countsBlock (settings ‼ mcid) at then set counts mcid (change (getD counts mcid none)) else counts
+  noted change counts mcid at = changedAt none (countsUnit (settings ‼ mcid) at) change counts mcid
 
   -- an emptied unit counts for its owner, a free one for nobody
   unfoldable pub emptied : (C → C) → List C → ℕ → List C

@@ -1,7 +1,7 @@
--- `monitor::blocks::counted_evict` meets its contract.
+-- `monitor::units::counted_evict` meets its contract.
 use borrow.Author.Needs.{needs}
-use Rattle.monitor.proofs.blocks.counted_evict.Statement.{statement}
-use Rattle.monitor.proofs.blocks.counted_evict.Tie as tie
+use Rattle.monitor.proofs.units.counted_evict.Statement.{statement}
+use Rattle.monitor.proofs.units.counted_evict.Tie as tie
 
 returns : tie.Need-returns
 returns c = cc

@@ -1,7 +1,7 @@
--- `monitor::blocks::counted_fill` meets its contract.
+-- `monitor::units::counted_fill` meets its contract.
 use borrow.Author.Needs.{needs}
-use Rattle.monitor.proofs.blocks.counted_fill.Statement.{statement}
-use Rattle.monitor.proofs.blocks.counted_fill.Tie as tie
+use Rattle.monitor.proofs.units.counted_fill.Statement.{statement}
+use Rattle.monitor.proofs.units.counted_fill.Tie as tie
 
 returns : tie.Need-returns
 returns c = cc
