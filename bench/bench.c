@@ -1,7 +1,7 @@
 /*
  * Benchmark: the library beside plain.c and tuned.c, in one run on the same
- * inputs. Every call checks record and tables (check 3); "read all" is for scale:
- * the time of a loop that adds up all their words.
+ * inputs. Every call reads all tables (check 3); "read all" is for scale: the
+ * time of a loop that adds up all words of record and tables.
  *
  * plain.c and tuned.c are compiled by gcc and, with -DWITH_CLANG, by clang
  * too, both with -O3 for baseline x86-64; the better one counts and is named.
@@ -15,7 +15,7 @@
  */
 #define _POSIX_C_SOURCE 200809L
 #include "fastest.h"
-#include "measured.h"
+#include "inputs.h"
 
 #include <time.h>
 
@@ -65,6 +65,160 @@ enum { VERSIONS = sizeof versions / sizeof versions[0] };
 #endif
 
 static struct state first_end;
+static const struct setup *size; /* of the tables */
+
+/* The measured calls: n of each, with everything they answer added up, refusals
+ * from bit 40, and pool bytes twice, so that one amount told as the other shows. */
+
+static uint64_t run_request(const struct interface *f, uint64_t n)
+{
+    uint64_t sum = 0, reserved, pool;
+    for (uint64_t i = 0; i < n; i++) {
+        const struct arguments *a = &list[i % CALLS];
+        sum += f->bandwidth_request(BANDWIDTH_OF(&now.bandwidth), a->rcid, a->mcid, a->at,
+                                    a->which, a->bytes, &reserved, &pool) << 40;
+        sum += reserved + 2 * pool;
+    }
+    return sum;
+}
+
+static uint64_t run_device_request(const struct interface *f, uint64_t n)
+{
+    uint64_t sum = 0, reserved, pool;
+    for (uint64_t i = 0; i < n; i++) {
+        const struct arguments *a = &list[i % CALLS];
+        sum += f->bandwidth_device_request(BANDWIDTH_OF(&now.bandwidth), CBQRI_IOMMU_DIRECTORY,
+                                           a->ta, a->at, a->which, a->bytes, &reserved,
+                                           &pool) << 40;
+        sum += reserved + 2 * pool;
+    }
+    return sum;
+}
+
+static uint64_t run_config_limit(const struct interface *f, uint64_t n)
+{
+    uint64_t sum = 0;
+    must(f->bandwidth_write(BANDWIDTH_OF(&now.bandwidth), 8, CBQRI_BW_ALLOC, cbqri_holder(3, 1)),
+         "operand");
+    for (uint64_t i = 0; i < n; i++)
+        sum += f->bandwidth_write(BANDWIDTH_OF(&now.bandwidth), 8, CBQRI_ALLOC_CTL,
+                                  list[i % CALLS].ctl);
+    return sum << 40;
+}
+
+static uint64_t run_read(const struct interface *f, uint64_t n)
+{
+    uint64_t sum = 0, value;
+    for (uint64_t i = 0; i < n; i++) {
+        sum += f->bandwidth_read(BANDWIDTH_OF(&now.bandwidth), 8, CBQRI_BW_ALLOC, &value) << 40;
+        sum += (value & 0xffff) + (value >> 16);
+    }
+    return sum;
+}
+
+/* None waits before a call: its caller takes the request out again. */
+static uint64_t run_wait(const struct interface *f, uint64_t n)
+{
+    uint64_t sum = 0;
+    for (uint64_t i = 0; i < n; i++) {
+        const struct arguments *a = &list[i % CALLS];
+        sum += f->bandwidth_wait(BANDWIDTH_OF(&now.bandwidth), a->rcid, a->mcid, a->at, a->which,
+                                 a->bytes) << 40;
+        sum += now.bandwidth.waiters[a->rcid] >> 32;
+        now.bandwidth.waiters[a->rcid] = 0;
+    }
+    return sum;
+}
+
+static uint64_t run_need(const struct interface *f, uint64_t n)
+{
+    uint64_t sum = 0, need;
+    all_wait(&now.bandwidth, size);
+    for (uint64_t i = 0; i < n; i++) {
+        sum += f->bandwidth_need(BANDWIDTH_OF(&now.bandwidth), list[i % CALLS].rcid, &need) << 40;
+        sum += need & 0xff;
+    }
+    return sum;
+}
+
+static uint64_t run_end_window(const struct interface *f, uint64_t n)
+{
+    uint64_t sum = 0;
+    for (uint64_t i = 0; i < n; i++)
+        sum += f->bandwidth_end_window(BANDWIDTH_OF(&now.bandwidth));
+    return sum << 40;
+}
+
+/* Before each call all wait again. */
+static uint64_t run_end_window_waiting(const struct interface *f, uint64_t n)
+{
+    static uint64_t waiters[MAX_RCIDS];
+    uint64_t sum = 0;
+    all_wait(&now.bandwidth, size);
+    memcpy(waiters, now.bandwidth.waiters, now.bandwidth.waiters_len);
+    for (uint64_t i = 0; i < n; i++) {
+        memcpy(now.bandwidth.waiters, waiters, now.bandwidth.waiters_len);
+        sum += f->bandwidth_end_window(BANDWIDTH_OF(&now.bandwidth));
+    }
+    return sum << 40;
+}
+
+static uint64_t run_fill(const struct interface *f, uint64_t n)
+{
+    uint64_t sum = 0, allowed;
+    for (uint64_t i = 0; i < n; i++) {
+        const struct arguments *a = &list[i % CALLS];
+        sum += f->capacity_fill(CAPACITY_OF(&now.capacity), a->rcid, a->mcid, a->at, a->unit,
+                                &allowed) << 40;
+        sum += allowed;
+    }
+    return sum;
+}
+
+/* The unit has an owner before a call, and then again what it had at the start. */
+static uint64_t run_evict(const struct interface *f, uint64_t n)
+{
+    uint64_t sum = 0;
+    for (uint64_t i = 0; i < n; i++) {
+        const struct arguments *a = &list[i % CALLS];
+        now.capacity.owners[a->unit] = cbqri_owner(a->rcid, a->mcid, a->at);
+        sum += f->capacity_evict(CAPACITY_OF(&now.capacity), a->unit);
+        sum += now.capacity.owners[a->unit];
+        now.capacity.owners[a->unit] = start.capacity.owners[a->unit];
+    }
+    return sum << 40;
+}
+
+/* Before each call all owners are there again. */
+static uint64_t run_flush(const struct interface *f, uint64_t n)
+{
+    uint64_t sum = 0;
+    for (uint64_t i = 0; i < n; i++) {
+        memcpy(now.capacity.owners, start.capacity.owners, start.capacity.owners_len);
+        sum += f->capacity_write(CAPACITY_OF(&now.capacity), 8, CBQRI_ALLOC_CTL,
+                                 list[i % CALLS].flush);
+    }
+    return sum << 40;
+}
+
+static const struct measured {
+    const char *name;
+    uint64_t (*run)(const struct interface *f, uint64_t n);
+    int bandwidth;
+} measured[] = {
+    {"request", run_request, 1},
+    {"device's request", run_device_request, 1},
+    {"CONFIG_LIMIT write", run_config_limit, 1},
+    {"read bw_alloc", run_read, 1},
+    {"wait", run_wait, 1},
+    {"need, all wait", run_need, 1},
+    {"window end", run_end_window, 1},
+    {"window end, all wait", run_end_window_waiting, 1},
+    {"fill", run_fill, 0},
+    {"evict", run_evict, 0},
+    {"FLUSH_RCID write", run_flush, 0},
+};
+enum { MEASURED = sizeof measured / sizeof measured[0] };
 
 /* For scale */
 
@@ -199,7 +353,7 @@ static void print_head(int repetitions, double milliseconds)
            "  plain, tuned   the same calls in C, straightforward and tuned by hand, -O3 for\n"
            "                 baseline x86-64, the better one of %s\n"
            "  read all       for scale: a loop that adds up the words of record and tables, all of\n"
-           "                 which a call must look at, but for the lower words of a mask\n"
+           "                 which a call must look at\n"
            "  ratios         the library's time to that of the C: below 1 it is the faster one\n"
            "  state          mixed: most pairs set, each RCID with a weight; reset: after a reset\n"
            "  window end     each one finds what the one before left: after the first both tables\n"
@@ -207,10 +361,9 @@ static void print_head(int repetitions, double milliseconds)
            "  all wait       under every RCID a request waits, before each window end anew; in the\n"
            "                 other rows none does\n"
            "  units          blocks of the cache and units of each; mixed: most have an owner,\n"
-           "                 before each eviction and each flush too\n"
-           "  block_mask     1 word, or 16 for 1,024 blocks; read in turn, and stored all\n\n",
+           "                 before each eviction and each flush too\n\n",
            repetitions, milliseconds, COMPILERS);
-    printf("%-20s %-7s %4s %-9s %-6s %8s %8s %-5s %8s %-5s %8s %13s %13s\n", "call", "pairs",
+    printf("%-20s %-7s %4s %-7s %-6s %8s %8s %-5s %8s %-5s %8s %13s %13s\n", "call", "pairs",
            "NM", "units", "state", "library", "plain", "", "tuned", "", "read all", "library/plain",
            "library/tuned");
 #ifdef WITH_BEFORE
@@ -223,11 +376,11 @@ static void print_row(const struct measured *m, const struct setup *s, const cha
 {
     int plain = row->best[PLAIN], tuned = row->best[TUNED];
     const double *ns = row->ns;
-    char pairs[16], units[24] = "";
+    char pairs[16], units[16] = "";
     snprintf(pairs, sizeof pairs, "%" PRIu64 " x %" PRIu64, s->nr, s->na);
     if (!m->bandwidth)
         snprintf(units, sizeof units, "%" PRIu64 " x %" PRIu64, s->ncblks, s->u);
-    printf("%-20s %-7s %4" PRIu64 " %-9s %-6s %8.1f %8.1f %-5s %8.1f %-5s %8.1f %13.2f %13.2f",
+    printf("%-20s %-7s %4" PRIu64 " %-7s %-6s %8.1f %8.1f %-5s %8.1f %-5s %8.1f %13.2f %13.2f",
            m->name, pairs, s->nm, units, state, ns[LIBRARY], ns[plain], versions[plain].f.name,
            ns[tuned], versions[tuned].f.name, row->reading, ns[LIBRARY] / ns[plain],
            ns[LIBRARY] / ns[tuned]);
@@ -238,15 +391,12 @@ static void print_row(const struct measured *m, const struct setup *s, const cha
     fflush(stdout);
 }
 
-static double bench_state(int setup, int mixed, int repetitions, double milliseconds)
+static double bench_state(const struct setup *s, int mixed, int repetitions, double milliseconds)
 {
-    const struct setup *s = &setups[setup];
     double worst = 0;
     size = s;
     make_inputs(s, mixed);
     for (int i = 0; i < MEASURED; i++) {
-        if (measured[i].bandwidth && setup >= BANDWIDTH_SETUPS)
-            continue;
         struct row row = measure(&measured[i], repetitions, milliseconds);
         print_row(&measured[i], s, mixed ? "mixed" : "reset", &row);
         double here = row.ns[LIBRARY] / row.ns[row.best[PLAIN]];
@@ -264,7 +414,7 @@ int main(int argc, char **argv)
     print_head(repetitions, milliseconds);
     for (int i = 0; i < SETUPS; i++) {
         for (int mixed = 1; mixed >= 0; mixed--) {
-            double here = bench_state(i, mixed, repetitions, milliseconds);
+            double here = bench_state(&setups[i], mixed, repetitions, milliseconds);
             worst = here > worst ? here : worst;
         }
     }

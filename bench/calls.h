@@ -17,9 +17,6 @@ enum {
 enum { MASKS = 1, CAPACITY_COUNTERS, CAPACITY_EVENTS, OWNERS, CAPACITY_SLICES_END };
 enum { MAX_SLICES = BANDWIDTH_SLICES_END };
 
-/* The word of the capacity record at which block_mask begins. */
-enum { BLOCK_MASK = 9 };
-
 struct slice {
     uint8_t *at;
     size_t length;
@@ -67,20 +64,18 @@ struct setup {
     uint64_t nbwblks, mrbwb, ncblks, nr, na, nm, q, w, u;
 };
 
-/* Caches of more than 64 blocks mostly have few units, so that a round stays short. */
 static struct setup random_setup(void)
 {
     struct setup s;
     s.nbwblks = PICK(1, 2, 10, 100, 1000, 65535, 1 + upto(65535));
     s.mrbwb = one_in(3) ? s.nbwblks : 1 + upto(s.nbwblks);
-    s.ncblks = one_in(2) ? PICK(1, 2, 31, 32, 33, 63, 64, 1 + upto(64))
-                         : PICK(65, 127, 128, 129, 1023, 1024, 65 + upto(960));
+    s.ncblks = PICK(1, 2, 31, 32, 33, 63, 64, 1 + upto(64));
     s.nr = PICK(1, 2, 4, 5, 8, 17, 256, 1 + upto(one_in(2) ? 40 : 256));
     s.na = 1 + upto(8);
     s.nm = PICK(1, 2, 4, 7, 16, 1 + upto(256), 256);
     s.q = PICK(1, 2, 64, 4096, 65535, 65536, 1 + upto(65536));
     s.w = PICK(24, 25, 32, 61, 62, 24 + upto(39));
-    s.u = s.ncblks > 64 && !one_in(8) ? 1 + upto(4) : PICK(1, 2, 3, 4, 8, 64, 1 + upto(64));
+    s.u = PICK(1, 2, 3, 4, 8, 64, 1 + upto(64));
     return s;
 }
 
@@ -192,29 +187,11 @@ static void random_owners(void *table, const struct setup *s)
         put_word(table, unit, 4, one && one_in(one) ? random_owner(s) : 0);
 }
 
-/* The bits of the blocks that stand in a word of a mask, from 64 * word on. */
-static uint64_t blocks_of(const struct setup *s, uint64_t word)
-{
-    uint64_t after = s->ncblks - 64 * word;
-    return UINT64_MAX >> (after < 64 ? 64 - after : 0);
-}
-
-/* A mask of no block, of one, of all or of some, from this word of a table on. */
-static void random_mask(void *table, uint64_t first, const struct setup *s)
-{
-    uint64_t kind = upto(4), words = mask_words(s->ncblks), block = upto(s->ncblks);
-    for (uint64_t i = 0; i < words; i++) {
-        uint64_t one = i == block / 64 ? UINT64_C(1) << block % 64 : 0;
-        uint64_t masks[] = {0, one, UINT64_MAX, kind == 3 ? next_random(&seed) : 0};
-        put_word(table, first + i, 8, masks[kind] & blocks_of(s, i));
-    }
-}
-
 static void random_capacity(const struct slice *list, const struct setup *s)
 {
-    for (uint64_t pair = 0; pair < s->nr * s->na; pair++)
-        random_mask(list[MASKS].at, pair * mask_words(s->ncblks), s);
-    random_mask(list[RECORD].at, BLOCK_MASK, s);
+    uint64_t blocks = UINT64_MAX >> (64 - s->ncblks);
+    for (uint64_t i = 0; i < s->nr * s->na; i++)
+        put_word(list[MASKS].at, i, 8, PICK(0, blocks, next_random(&seed) & blocks));
     random_owners(list[OWNERS].at, s);
     random_monitor(list[CAPACITY_COUNTERS].at, list[CAPACITY_EVENTS].at, s, 1, UINT64_C(1) << 63);
 }
@@ -259,17 +236,6 @@ static void damage_owner(void *table, const struct setup *s)
     put_word(table, unit, 4, owner);
 }
 
-/* A bit at or above NCBLKS becomes 1, if there is one, in a mask of so many words
- * that begins at this word of a table; half of the time it is bit NCBLKS. */
-static void damage_mask(void *table, uint64_t first, uint64_t words, const struct setup *s)
-{
-    uint64_t beyond = 64 * words - s->ncblks;
-    if (beyond == 0)
-        return;
-    uint64_t bit = s->ncblks + (one_in(2) ? 0 : upto(beyond)), index = first + bit / 64;
-    put_word(table, index, 8, get_word(table, index, 8) | UINT64_C(1) << bit % 64);
-}
-
 static void damage_length(size_t *length)
 {
     *length = PICK(0, *length - 1, *length / 2, *length > 4 ? *length - 4 : 0);
@@ -279,14 +245,14 @@ static void damage_length(size_t *length)
 
 enum kind {
     RESET, READ, WRITE, REQUEST, END_WINDOW, DEVICE_REQUEST, WAIT, NEED,
-    FILL = REQUEST, EVICT = END_WINDOW, COUNT = DEVICE_REQUEST
+    FILL = REQUEST, EVICT = END_WINDOW
 };
 
 struct call {
     enum kind kind;
     struct setup setup;             /* of a reset */
     uint64_t size, offset, value;   /* of a read or write */
-    uint64_t rcid, mcid, at, which; /* of a request, cache event or count; its kind or unit */
+    uint64_t rcid, mcid, at, which; /* of a request or cache event: its kind or unit */
     uint64_t mode, word;            /* of a device's request, beside at and which */
     uint32_t bytes;
 };
@@ -304,13 +270,10 @@ static uint64_t random_control(const struct setup *s, uint64_t ids, uint64_t ops
 
 static void random_access(struct call *c, const struct setup *s, int bandwidth)
 {
-    uint64_t words = bandwidth ? 1 : mask_words(s->ncblks), end = 32 + 8 * words;
-    uint64_t limit = 32 + 8 * upto(words);
     c->size = one_in(20) ? PICK(0, 1, 2, 3, 5, 16, UINT64_MAX) : one_in(3) ? 4 : 8;
-    c->offset = one_in(20) ? PICK(1, 2, 4, 36, 40, 44, end - 4, end, end + 4, 160,
-                                  UINT64_MAX - 3, UINT64_MAX - 7)
-                           : PICK(0, 8, 16, 24, 24, limit, limit);
-    if (c->offset < end && c->size == 4 && one_in(3))
+    c->offset = one_in(20) ? PICK(1, 2, 4, 36, 40, 44, UINT64_MAX - 3, UINT64_MAX - 7)
+                           : PICK(0, 8, 16, 24, 24, 32, 32);
+    if (c->offset <= 32 && c->size == 4 && one_in(3))
         c->offset += 4;
     c->value = random_word(64);
     if (c->offset == 32 && bandwidth)
@@ -345,14 +308,15 @@ static void random_device(struct call *c, const struct setup *s)
 static uint64_t random_unit(const struct setup *s)
 {
     uint64_t units = s->ncblks * s->u;
-    return one_in(10) ? PICK(units, MAX_UNITS, UINT64_MAX) : near_front(units);
+    return one_in(10) ? PICK(units, 64 * 64, UINT64_MAX) : near_front(units);
 }
 
 static struct call random_call(const struct setup *s, int bandwidth)
 {
     struct call c = {0};
     c.kind = (enum kind)PICK(READ, WRITE, WRITE, WRITE, REQUEST, REQUEST, END_WINDOW,
-                             DEVICE_REQUEST, bandwidth ? WAIT : FILL, bandwidth ? NEED : EVICT);
+                             bandwidth ? DEVICE_REQUEST : FILL, bandwidth ? WAIT : FILL,
+                             bandwidth ? NEED : EVICT);
     if (one_in(50))
         c.kind = RESET;
     c.setup = *s;
@@ -360,7 +324,7 @@ static struct call random_call(const struct setup *s, int bandwidth)
         uint64_t *numbers[] = {&c.setup.nbwblks, &c.setup.mrbwb, &c.setup.ncblks, &c.setup.nr,
                                &c.setup.na, &c.setup.nm, &c.setup.q, &c.setup.w, &c.setup.u};
         uint64_t *number = numbers[upto(9)];
-        *number = PICK(0, *number + 1, *number - 1, 65, 257, 1025, 65537, UINT64_MAX);
+        *number = PICK(0, *number + 1, *number - 1, 65, 257, 65537, UINT64_MAX);
     }
     random_access(&c, s, bandwidth);
     c.rcid = one_in(20) ? PICK(s->nr, UINT64_MAX) : upto(s->nr);
@@ -374,8 +338,9 @@ static struct call random_call(const struct setup *s, int bandwidth)
 
 /* A call on slices */
 
-/* The numbers that a call hands back go to out: a request's reserved bytes to the
- * first place and its pool bytes to the second, that of any other call to the first. */
+/* The numbers that a call hands back go to out: that of a read, a need or a fill to
+ * the first place, a request's reserved bytes to the first and its pool bytes to the
+ * second. */
 enum { NUMBERS = 2 };
 
 #define FIVE(s)                                                                \
@@ -423,10 +388,8 @@ static uint64_t call_capacity(const struct interface *f, const struct slice *b,
         return f->capacity_write(FIVE(b), c->size, c->offset, c->value);
     case FILL:
         return f->capacity_fill(FIVE(b), c->rcid, c->mcid, c->at, c->which, out[0]);
-    case EVICT:
-        return f->capacity_evict(FIVE(b), c->which);
     default:
-        return f->capacity_count(FIVE(b), c->rcid, c->at, out[0]);
+        return f->capacity_evict(FIVE(b), c->which);
     }
 }
 
@@ -441,7 +404,7 @@ struct controller {
     unsigned answers;            /* bit N: some call answers N */
     size_t record;               /* bytes */
     unsigned widths[MAX_SLICES]; /* bytes of a word in each slice */
-    char words[MAX_SLICES + 1];  /* of a pair (p), mask (k), MCID (m), RCID (r) or unit (u) */
+    char words[MAX_SLICES + 1];  /* of a pair (p), an MCID (m), an RCID (r) or a unit (u) */
     void (*random_state)(const struct slice *list, const struct setup *s);
     uint64_t (*call)(const struct interface *f, const struct slice *list, const struct call *c,
                      uint64_t *const out[NUMBERS]);
@@ -453,40 +416,23 @@ static const struct controller controllers[CONTROLLERS] = {
      {"reset", "read", "write", "request", "end_window", "device_request", "wait", "need"},
      {0, 1, 0, 2, 0, 2, 0, 1}, 0, BANDWIDTH_SLICES_END, 32, 0xeff, 96, {8, 4, 4, 4, 8, 2, 8},
      ".pppmmr", random_bandwidth, call_bandwidth},
-    {"capacity", {"reset", "read", "write", "fill", "evict", "count"}, {0, 1, 0, 1, 0, 1}, 1,
-     CAPACITY_SLICES_END, 12, 0x1ff, 8 * (BLOCK_MASK + MASK_WORDS), {8, 8, 8, 2, 4}, ".kmmu",
-     random_capacity, call_capacity},
+    {"capacity", {"reset", "read", "write", "fill", "evict"}, {0, 1, 0, 1, 0}, 1,
+     CAPACITY_SLICES_END, 12, 0x1ff, 80, {8, 8, 8, 2, 4}, ".pmmu", random_capacity, call_capacity},
 };
 
-/* Slices with memory of their own, one behind the other, for the largest set-up: that
- * of the capacity controller. */
-enum {
-    MAX_MASKS = MASK_WORDS * MAX_PAIRS,
-    MAX_WORDS = BLOCK_MASK + MASK_WORDS + MAX_MASKS + MAX_MCIDS + MAX_MCIDS / 4 + MAX_UNITS / 2
-};
-
+/* Slices with memory of their own, for the largest set-up. */
 struct memory {
     struct slice list[MAX_SLICES];
-    uint64_t words[MAX_WORDS];
+    uint64_t words[MAX_SLICES][MAX_PAIRS];
 };
 
-/* Places the slices by their lengths, each at the start of a word. */
-static void place(struct memory *m, int slices)
-{
-    uint64_t word = 0;
-    for (int i = 0; i < slices; i++) {
-        m->list[i].at = (uint8_t *)&m->words[word];
-        word += (m->list[i].length + 7) / 8;
-    }
-}
+_Static_assert(4 * MAX_UNITS <= 8 * MAX_PAIRS, "owners fit where masks do");
 
 static uint64_t words_by(char by, const struct setup *s)
 {
     switch (by) {
     case 'p':
         return s->nr * s->na;
-    case 'k':
-        return s->nr * s->na * mask_words(s->ncblks);
     case 'm':
         return s->nm;
     case 'r':
@@ -498,34 +444,27 @@ static uint64_t words_by(char by, const struct setup *s)
 
 static void fit(struct memory *m, const struct controller *k, const struct setup *s)
 {
-    for (int i = 0; i < k->slices; i++)
-        m->list[i].length = i == RECORD ? k->record : k->widths[i] * words_by(k->words[i], s);
-    place(m, k->slices);
-    for (int i = 0; i < k->slices; i++)
-        memset(m->list[i].at, 0xa5, m->list[i].length);
+    for (int i = 0; i < k->slices; i++) {
+        size_t length = i == RECORD ? k->record : k->widths[i] * words_by(k->words[i], s);
+        m->list[i] = (struct slice){(uint8_t *)m->words[i], length};
+    }
 }
 
 static void copy_slices(struct memory *to, const struct slice *from, int slices)
 {
-    for (int i = 0; i < slices; i++)
-        to->list[i].length = from[i].length;
-    place(to, slices);
-    for (int i = 0; i < slices; i++)
-        memcpy(to->list[i].at, from[i].at, from[i].length);
+    for (int i = 0; i < slices; i++) {
+        to->list[i] = (struct slice){(uint8_t *)to->words[i], from[i].length};
+        memcpy(to->words[i], from[i].at, from[i].length);
+    }
 }
 
 static void damage(const struct controller *k, struct slice *list, const struct setup *s)
 {
     int i = (int)upto((uint64_t)k->slices);
-    uint64_t words = mask_words(s->ncblks);
     if (one_in((uint64_t)k->slices))
         damage_length(&list[i].length);
     else if (k->words[i] == 'u' && one_in(2))
         damage_owner(list[i].at, s);
-    else if (k->words[i] == 'k' && one_in(2))
-        damage_mask(list[i].at, words * near_front(s->nr * s->na), words, s);
-    else if (k->place == 1 && i == RECORD && one_in(3))
-        damage_mask(list[i].at, BLOCK_MASK, MASK_WORDS, s);
     else
         damage_word(list[i].at, list[i].length, k->widths[i]);
 }
@@ -539,6 +478,7 @@ static void make_round(const struct controller *k,
     static struct memory m, damaged;
     struct setup s = random_setup();
     struct call reset = {.kind = RESET, .setup = s};
+    memset(m.words, 0xa5, sizeof m.words);
     fit(&m, k, &s);
     make(k, m.list, &reset);
     if (!one_in(3))

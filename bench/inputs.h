@@ -15,18 +15,16 @@ struct setup {
     uint64_t nr, na, nm, ncblks, u;
 };
 
-/* The last one differs from the one before it in blocks alone. */
 static const struct setup setups[] = {
-    {4, 2, 4, 16, 4}, {64, 2, 16, 32, 16}, {256, 8, 256, 64, 64}, {256, 8, 256, 1024, 64}};
-enum { SETUPS = sizeof setups / sizeof setups[0], BANDWIDTH_SETUPS = SETUPS - 1 };
+    {4, 2, 4, 16, 4}, {64, 2, 16, 32, 16}, {256, 8, 256, 64, 64}};
+enum { SETUPS = sizeof setups / sizeof setups[0] };
 
 enum { NBWBLKS = 60000, MRBWB = 50000, Q = 65536, W = 40, CALLS = 256 };
 
 /* Arguments of a call; which is the kind of a request, ctl performs CONFIG_LIMIT and
- * flush FLUSH_RCID, ta names RCID and MCID in a device context, mask_word is the offset
- * of a word of block_mask. */
+ * flush FLUSH_RCID, ta names RCID and MCID in a device context. */
 struct arguments {
-    uint64_t rcid, mcid, at, which, ctl, flush, ta, unit, mask_word;
+    uint64_t rcid, mcid, at, which, ctl, flush, ta, unit;
     uint32_t bytes;
 };
 
@@ -91,22 +89,12 @@ static uint64_t mixed_owner(const struct setup *s)
     return cbqri_owner(rcid, mcid, upto(s->na));
 }
 
-/* A mask of half of the blocks, or an empty one. */
-static void mixed_mask(uint64_t *mask, const struct setup *s, uint64_t empty)
-{
-    uint64_t words = mask_words(s->ncblks);
-    uint64_t highest = UINT64_MAX >> (64 * words - s->ncblks);
-    for (uint64_t i = 0; i < words; i++) {
-        uint64_t blocks = i + 1 < words ? UINT64_MAX : highest;
-        put_word(mask, i, 8, empty ? 0 : next_random(&seed) & blocks);
-    }
-}
-
-/* One mask in four is empty; of eight units seven are owned. */
+/* Masks of half of the blocks, one in four empty; of eight units seven are owned. */
 static void mixed_capacity(struct capacity_buffers *c, const struct setup *s)
 {
+    uint64_t blocks = UINT64_MAX >> (64 - s->ncblks);
     for (uint64_t i = 0; i < s->nr * s->na; i++)
-        mixed_mask(c->masks + i * mask_words(s->ncblks), s, upto(4) == 0);
+        put_word(c->masks, i, 8, upto(4) ? next_random(&seed) & blocks : 0);
     for (uint64_t i = 0; i < s->ncblks * s->u; i++)
         put_word(c->owners, i, 4, upto(8) ? mixed_owner(s) : 0);
     mixed_monitor(c->counters, c->events, s, 1);
@@ -159,16 +147,7 @@ static void make_list(const struct setup *s, int mixed)
             .ctl = cbqri_alloc_ctl(CBQRI_CONFIG_LIMIT, 0, rcid)};
         list[i].flush = cbqri_alloc_ctl(CBQRI_FLUSH_RCID, 0, list[i].rcid);
         list[i].ta = cbqri_dc_ta(list[i].rcid, list[i].mcid);
-        list[i].mask_word = CBQRI_BLOCK_MASK + 8 * ((uint64_t)i % mask_words(s->ncblks));
     }
-}
-
-/* block_mask has half of the blocks. */
-static void mask_operand(struct capacity_buffers *c, const struct setup *s)
-{
-    for (uint64_t i = 0; i < mask_words(s->ncblks); i++)
-        must(cbqri_capacity_write(CAPACITY_OF(c), 8, CBQRI_BLOCK_MASK + 8 * i, next_random(&seed)),
-             "operand");
 }
 
 /* The start state, in use or after a reset, and the arguments; always the same ones. */
@@ -181,7 +160,6 @@ static void make_inputs(const struct setup *s, int mixed)
         mixed_capacity(&start.capacity, s);
     }
     make_list(s, mixed);
-    mask_operand(&start.capacity, s);
 }
 
 #endif

@@ -35,8 +35,6 @@ struct interface {
     uint64_t (*capacity_fill)(CAPACITY_SLICES(), uint64_t rcid, uint64_t mcid,
                               uint64_t at, uint64_t unit, uint64_t *allowed);
     uint64_t (*capacity_evict)(CAPACITY_SLICES(), uint64_t unit);
-    uint64_t (*capacity_count)(CAPACITY_SLICES(const), uint64_t rcid, uint64_t at,
-                               uint64_t *blocks);
 };
 
 #define INTERFACE(label, prefix)                                               \
@@ -47,11 +45,10 @@ struct interface {
             JOIN(prefix, bandwidth_wait), JOIN(prefix, bandwidth_need),        \
             JOIN(prefix, bandwidth_end_window), JOIN(prefix, capacity_reset),  \
             JOIN(prefix, capacity_read), JOIN(prefix, capacity_write),         \
-            JOIN(prefix, capacity_fill), JOIN(prefix, capacity_evict),         \
-            JOIN(prefix, capacity_count)                                       \
+            JOIN(prefix, capacity_fill), JOIN(prefix, capacity_evict)          \
     }
 
-enum { MAX_PAIRS = 256 * 8, MAX_MCIDS = 256, MAX_RCIDS = 256, MAX_UNITS = 64 * MASK_WORDS * 64 };
+enum { MAX_PAIRS = 256 * 8, MAX_MCIDS = 256, MAX_RCIDS = 256, MAX_UNITS = 64 * 64 };
 
 /* Buffers of either controller, large enough for every set-up; lengths are in
  * bytes. A little-endian host has the same bytes in the tables whichever way
@@ -66,8 +63,8 @@ struct bandwidth_buffers {
 };
 
 struct capacity_buffers {
-    uint8_t record[200];
-    uint64_t masks[MASK_WORDS * MAX_PAIRS], counters[MAX_MCIDS];
+    uint8_t record[80];
+    uint64_t masks[MAX_PAIRS], counters[MAX_MCIDS];
     uint16_t events[MAX_MCIDS];
     uint32_t owners[MAX_UNITS];
     size_t record_len, masks_len, counters_len, events_len, owners_len;
@@ -94,17 +91,11 @@ static inline void bandwidth_lengths(struct bandwidth_buffers *b, uint64_t nr,
     b->waiters_len = 8 * nr;
 }
 
-/* Words of a mask of so many blocks. */
-static inline uint64_t mask_words(uint64_t ncblks)
-{
-    return (ncblks + 63) / 64;
-}
-
 static inline void capacity_lengths(struct capacity_buffers *c, uint64_t ncblks, uint64_t nr,
                                     uint64_t na, uint64_t nm, uint64_t u)
 {
     c->record_len = sizeof c->record;
-    c->masks_len = 8 * mask_words(ncblks) * nr * na;
+    c->masks_len = 8 * nr * na;
     c->counters_len = 8 * nm;
     c->events_len = 2 * nm;
     c->owners_len = 4 * ncblks * u;

@@ -31,9 +31,6 @@
         Q uint8_t *counters, size_t counters_len, Q uint8_t *events,           \
         size_t events_len, Q uint8_t *owners, size_t owners_len
 
-/* Words of the largest mask, and of block_mask in every record. */
-enum { MASK_WORDS = 16 };
-
 #endif
 
 uint64_t NAME(bandwidth_reset)(uint64_t nbwblks, uint64_t mrbwb, uint64_t nr,
@@ -63,5 +60,3 @@ uint64_t NAME(capacity_write)(CAPACITY_SLICES(), uint64_t size, uint64_t offset,
 uint64_t NAME(capacity_fill)(CAPACITY_SLICES(), uint64_t rcid, uint64_t mcid,
                              uint64_t at, uint64_t unit, uint64_t *allowed);
 uint64_t NAME(capacity_evict)(CAPACITY_SLICES(), uint64_t unit);
-uint64_t NAME(capacity_count)(CAPACITY_SLICES(const), uint64_t rcid, uint64_t at,
-                              uint64_t *blocks);

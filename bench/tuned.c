@@ -1,6 +1,6 @@
 /*
- * plain.c with check 3, a flush and a count tuned by hand: loops without exits that
- * gather what must be 0 with |, so that the compiler turns them into vector code.
+ * plain.c with check 3 and a flush tuned by hand: loops without exits that gather
+ * what must be 0 with |, so that the compiler turns them into vector code.
  *
  * - Settings are read in parts of at most 128 words. A part that is all 0 is
  *   done at once, and so is a part of the configured table that equals the
@@ -12,7 +12,6 @@
  * - In a row, no bit of Mweight may be 1 in one pair and 0 in a holder. So the
  *   holders have one weight; a pair without Rbwb fails by its own weight.
  * - Both tests of a row are one, over a word of marks for each pair.
- * - Of a mask only the highest word is read: the others may have every bit.
  * - An owner's RCID, MCID or AT that is out of range shows as a carry once the
  *   numbers that its field has beyond the range are added.
  * - A flush passes over 16 units at a time if none of them is the RCID's.
@@ -22,11 +21,9 @@
 #endif
 #define BANDWIDTH_TABLES_OK tuned_bandwidth_tables_ok
 #define WAITERS_OK tuned_waiters_ok
-#define BLOCK_MASK_OK tuned_block_mask_ok
 #define CAPACITY_TABLES_OK tuned_capacity_tables_ok
 #define OWNERS_OK tuned_owners_ok
 #define FLUSH tuned_flush
-#define COUNT_BITS tuned_count_bits
 #include "plain.c"
 
 enum {
@@ -282,33 +279,12 @@ static bool tuned_bandwidth_tables_ok(struct bandwidth *b)
            events_bad(m) == 0;
 }
 
-/* The highest words of all masks, gathered with |. */
-static uint64_t top_words(const struct capacity *c)
-{
-    size_t pairs = c->r.nr * c->r.na;
-    uint64_t any = 0;
-    if (c->words == 1)
-        return any_word64(c->masks, pairs);
-    for (size_t i = 1; i <= pairs; i++)
-        any |= load64(c->masks, i * c->words - 1);
-    return any;
-}
-
-/* The words beyond those of a mask are 0. */
-static bool tuned_block_mask_ok(const struct capacity *c)
-{
-    uint64_t bad = c->r.block_mask[c->words - 1] & ~block_bits(c->r.ncblks, c->words - 1);
-    for (size_t i = c->words; i < MASK_WORDS; i++)
-        bad |= c->r.block_mask[i];
-    return bad == 0;
-}
-
 static bool tuned_capacity_tables_ok(const struct capacity *c)
 {
     const struct monitor *m = &c->monitor;
-    if (c->r.nr * c->r.na * c->words <= SMALL)
+    if (c->r.nr * c->r.na <= SMALL)
         return capacity_tables_ok(c);
-    return (top_words(c) & ~block_bits(c->r.ncblks, c->words - 1)) == 0 &&
+    return (any_word64(c->masks, c->r.nr * c->r.na) & ~block_bits(c->r.ncblks)) == 0 &&
            (any_word64(m->counters, m->nm) & ~CAPACITY_INVALID) >> c->r.w == 0 &&
            events_bad(m) == 0;
 }
@@ -345,18 +321,4 @@ static void tuned_flush(struct capacity *c, uint64_t rcid, uint64_t first, uint6
             flush(c, rcid, first, first + FLUSH_PART);
     }
     flush(c, rcid, first, end);
-}
-
-/* Bits counted in pairs, fours and bytes, and the bytes added up. */
-static uint64_t tuned_count_bits(const uint8_t *table, uint64_t index, uint64_t words)
-{
-    uint64_t bits = 0;
-    for (uint64_t i = 0; i < words; i++) {
-        uint64_t word = load64(table, index + i);
-        word -= word >> 1 & UINT64_C(0x5555555555555555);
-        word = (word & UINT64_C(0x3333333333333333)) + (word >> 2 & UINT64_C(0x3333333333333333));
-        word = (word + (word >> 4)) & UINT64_C(0x0f0f0f0f0f0f0f0f);
-        bits += word * UINT64_C(0x0101010101010101) >> 56;
-    }
-    return bits;
 }

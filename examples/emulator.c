@@ -18,8 +18,7 @@
 /* ---- The machine: buffers of both controllers ---- */
 
 enum { NR = 4, NA = 2, NM = 4, W = 24 };
-enum { NBWBLKS = 100, MRBWB = 80, Q = 64 };
-enum { NCBLKS = 80, U = 4 }; /* a cache of 80 ways: masks have two words */
+enum { NBWBLKS = 100, MRBWB = 80, Q = 64, NCBLKS = 40, U = 4 };
 
 static const struct cbqri_bw_setup bw_setup = {
     .nbwblks = NBWBLKS, .mrbwb = MRBWB, .nr = NR, .na = NA, .nm = NM, .q = Q, .w = W};
@@ -122,14 +121,6 @@ static void fill(uint64_t rcid, uint64_t mcid, uint64_t at, uint64_t unit)
            allowed ? "allowed" : "not allowed");
 }
 
-static void print_blocks(uint64_t rcid, uint64_t at)
-{
-    uint64_t blocks;
-    must(cbqri_cc_count(&cc, rcid, at, &blocks), "count");
-    printf("  RCID %" PRIu64 " AT %" PRIu64 " may fill %2" PRIu64 " of %d blocks\n", rcid, at,
-           blocks, NCBLKS);
-}
-
 static void evict(uint64_t unit)
 {
     must(cbqri_cc_evict(&cc, unit), "evict");
@@ -205,38 +196,15 @@ static uint64_t driver_operation(uint64_t base, uint64_t ctl_offset, uint64_t ct
     return cbqri_status(mmio_read(base + ctl_offset, 8));
 }
 
-/* CONFIG_LIMIT of what bw_alloc or block_mask has, whose STATUS it hands back, and then
- * READ_LIMIT of the same pair. */
-static uint64_t driver_configure(uint64_t base, uint64_t rcid, uint64_t at)
+static void driver_limit(uint64_t base, uint64_t rcid, uint64_t at, uint64_t limit)
 {
+    mmio_write(base + CBQRI_BW_ALLOC, 8, limit);
     uint64_t status = driver_operation(base, CBQRI_ALLOC_CTL,
                                        cbqri_alloc_ctl(CBQRI_CONFIG_LIMIT, at, rcid));
     driver_operation(base, CBQRI_ALLOC_CTL, cbqri_alloc_ctl(CBQRI_READ_LIMIT, at, rcid));
-    return status;
-}
-
-static void driver_limit(uint64_t rcid, uint64_t at, uint64_t limit)
-{
-    mmio_write(BW_BASE + CBQRI_BW_ALLOC, 8, limit);
-    uint64_t status = driver_configure(BW_BASE, rcid, at);
     printf("driver: limit of RCID %" PRIu64 " AT %" PRIu64 " to 0x%" PRIx64 ": STATUS %" PRIu64
            ", reads back 0x%" PRIx64 "\n", rcid, at, limit, status,
-           mmio_read(BW_BASE + CBQRI_BW_ALLOC, 8));
-}
-
-static uint64_t mask_words; /* by the NCBLKS that capabilities has */
-
-/* Word by word, the lowest first; CONFIG_LIMIT takes the mask whole. */
-static void driver_mask(uint64_t rcid, uint64_t at, const uint64_t *mask)
-{
-    const uint64_t base = CC_BASE + CBQRI_BLOCK_MASK;
-    for (uint64_t word = 0; word < mask_words; word++)
-        mmio_write(base + 8 * word, 8, mask[word]);
-    printf("driver: mask of RCID %" PRIu64 " AT %" PRIu64 ": STATUS %" PRIu64 ", reads back", rcid,
-           at, driver_configure(CC_BASE, rcid, at));
-    for (uint64_t word = 0; word < mask_words; word++)
-        printf(" 0x%016" PRIx64, mmio_read(base + 8 * word, 8));
-    printf("\n");
+           mmio_read(base + CBQRI_BW_ALLOC, 8));
 }
 
 static void driver_event(uint64_t base, uint64_t mcid, uint64_t event, uint64_t at, uint64_t atv)
@@ -269,7 +237,6 @@ static void driver_probe(void)
            ", capacity VER %" PRIu64 " NCBLKS %" PRIu64 " FRCID %" PRIu64 "\n\n",
            bandwidth & 0xff, bandwidth >> 8 & 0xffff, bandwidth >> 32 & 0xffff, capacity & 0xff,
            capacity >> 8 & 0xffff, capacity >> 24 & 1);
-    mask_words = CBQRI_MASK_WORDS(capacity >> 8 & 0xffff);
 }
 
 /* ---- The story ---- */
@@ -278,11 +245,11 @@ static void bandwidth_story(void)
 {
     request(0, 0, 0, 0, 6000); /* after reset RCID 0 has all: 5,120 reserved, 880 of the pool */
     request(1, 0, 0, 0, 1000); /* never set */
-    driver_limit(1, 0, cbqri_holder(10, 5)); /* 80 + 10 exceeds MRBWB */
-    driver_limit(0, 0, cbqri_holder(30, 1));
-    driver_limit(1, 0, cbqri_holder(30, 5));
-    driver_limit(1, 1, cbqri_sharer(0));
-    driver_limit(2, 0, cbqri_holder(20, 0));
+    driver_limit(BW_BASE, 1, 0, cbqri_holder(10, 5)); /* 80 + 10 exceeds MRBWB */
+    driver_limit(BW_BASE, 0, 0, cbqri_holder(30, 1));
+    driver_limit(BW_BASE, 1, 0, cbqri_holder(30, 5));
+    driver_limit(BW_BASE, 1, 1, cbqri_sharer(0));
+    driver_limit(BW_BASE, 2, 0, cbqri_holder(20, 0));
     driver_event(BW_BASE, 1, CBQRI_EVENT_BYTES, 0, 0);
     driver_event(BW_BASE, 2, CBQRI_EVENT_WRITES, 1, 1);
     request(1, 1, 0, 0, 10); /* configured, but not in force before the window ends */
@@ -294,16 +261,16 @@ static void bandwidth_story(void)
     request(2, 2, 0, 1, 1500); /* 1,280 reserved; Mweight 0, so nothing of the pool */
     request(3, 0, 0, 0, 100);  /* never set */
     /* A refused CONFIG_LIMIT must not keep later ones from governing. */
-    driver_limit(3, 0, cbqri_holder(1, 1)); /* 80 + 1 exceeds MRBWB */
-    driver_limit(1, 0, cbqri_holder(15, 5));
-    driver_limit(3, 0, cbqri_holder(10, 0));
+    driver_limit(BW_BASE, 3, 0, cbqri_holder(1, 1)); /* 80 + 1 exceeds MRBWB */
+    driver_limit(BW_BASE, 1, 0, cbqri_holder(15, 5));
+    driver_limit(BW_BASE, 3, 0, cbqri_holder(10, 0));
     end_window(1);
 
     request(3, 0, 0, 0, 1000); /* now 640 reserved */
     request(1, 1, 0, 0, 900);  /* 900 of 960 reserved */
     request(1, 2, 1, 1, 2000); /* the other 60, and all 1,600 of the pool */
     request(0, 0, 0, 0, 2500); /* 1,920 reserved; the pool is empty */
-    driver_limit(3, 1, cbqri_holder(5, 2)); /* AT 0 of RCID 3 gets this weight too */
+    driver_limit(BW_BASE, 3, 1, cbqri_holder(5, 2)); /* AT 0 of RCID 3 gets this weight too */
     end_window(2);
 
     driver_counter(BW_BASE, 1); /* 2,000 + 620 + 900 */
@@ -346,25 +313,22 @@ static void waiter_story(void)
 static void capacity_story(void)
 {
     printf("\n");
-    driver_mask(1, 0, (const uint64_t[]){0, 0}); /* a mask must not be empty */
-    driver_mask(1, 0, (const uint64_t[]){0x0f, 0});
-    driver_mask(1, 1, (const uint64_t[]){0xf0, 0xff00}); /* in pieces: blocks 4 to 7, 72 to 79 */
-    print_blocks(1, 0);
-    print_blocks(1, 1);
-    print_blocks(0, 0); /* every block, since the reset */
+    driver_limit(CC_BASE, 1, 0, 0); /* a mask must not be 0 */
+    driver_limit(CC_BASE, 1, 0, 0x0f);
+    driver_limit(CC_BASE, 1, 1, UINT64_C(0xff000000f0)); /* in pieces */
     driver_event(CC_BASE, 1, CBQRI_EVENT_OCCUPANCY, 0, 0);
     driver_event(CC_BASE, 2, CBQRI_EVENT_OCCUPANCY, 1, 1);
     driver_event(CC_BASE, 2, CBQRI_EVENT_WRITES, 0, 0); /* no event of this controller */
     fill(1, 1, 0, 15); /* the last unit of block 3 */
     fill(1, 1, 0, 16); /* block 4 is AT 1's */
     fill(1, 1, 1, 16);
-    fill(1, 2, 1, 319); /* the last unit of all */
+    fill(1, 2, 1, 159);
     fill(1, 2, 0, 8); /* allowed, but MCID 2 counts AT 1 alone */
     driver_counter(CC_BASE, 1);
     driver_counter(CC_BASE, 2);
     fill(0, 0, 0, 16); /* what RCID 1 had there is evicted first */
-    evict(319);
-    evict(319); /* it is free, and nothing changes */
+    evict(159);
+    evict(159); /* it is free, and nothing changes */
     driver_counter(CC_BASE, 1);
     driver_counter(CC_BASE, 2);
     driver_event(CC_BASE, 2, CBQRI_EVENT_OCCUPANCY, 0, 0); /* too late: MCID 2 owns unit 8 */

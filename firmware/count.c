@@ -2,10 +2,9 @@
  * Instructions of each call on the bare board, as its counter minstret has
  * them: the call with the board's memcpy and memset, and what its caller does
  * to hand over the arguments. Under qemu with -icount the counter is exact and
- * the output always the same. A number is the mean of CALLS calls (an eighth as many
- * with 1,024 blocks, which take long) with random arguments, each on the same state:
- * most pairs set and most units owned, or after a reset. None waits, but in the line
- * that says so a request under every RCID.
+ * the output always the same. A number is the mean of CALLS calls with random
+ * arguments, each on the same state: most pairs set and most units owned, or after a
+ * reset. None waits, but in the line that says so a request under every RCID.
  */
 #include "../bench/inputs.h"
 
@@ -47,23 +46,20 @@ COUNT(capacity_write, CAPACITY, 8, CBQRI_ALLOC_CTL, a->ctl)
 COUNT_OF(capacity_flush, cbqri_capacity_write, CAPACITY, 8, CBQRI_ALLOC_CTL, a->flush)
 COUNT(capacity_fill, CAPACITY, a->rcid, a->mcid, a->at, a->unit, &out)
 COUNT(capacity_evict, CAPACITY, a->unit)
-COUNT(capacity_count, CAPACITY, a->rcid, a->at, &out)
 
-/* Set-ups beyond BANDWIDTH_SETUPS are others for the capacity controller alone. */
-#define OF_BANDWIDTH(name) {"cbqri_bandwidth_" #name, bandwidth_##name, BANDWIDTH_SETUPS, 0}
-#define OF_CAPACITY(name) {"cbqri_capacity_" #name, capacity_##name, SETUPS, 0}
+#define NAMED(name) {"cbqri_" #name, name, 0}
 static const struct entry {
     const char *name;
     uint64_t (*count)(const struct arguments *a);
-    int setups, waiting;
+    int waiting;
 } entries[] = {
-    OF_BANDWIDTH(reset), OF_BANDWIDTH(read), OF_BANDWIDTH(write), OF_BANDWIDTH(request),
-    OF_BANDWIDTH(device_request), OF_BANDWIDTH(wait), OF_BANDWIDTH(need),
-    OF_BANDWIDTH(end_window),
-    {"cbqri_bandwidth_end_window, all wait:", bandwidth_end_window, BANDWIDTH_SETUPS, 1},
-    OF_CAPACITY(reset), OF_CAPACITY(read), OF_CAPACITY(write),
-    {"cbqri_capacity_write, FLUSH_RCID:", capacity_flush, SETUPS, 0},
-    OF_CAPACITY(fill), OF_CAPACITY(evict), OF_CAPACITY(count),
+    NAMED(bandwidth_reset), NAMED(bandwidth_read), NAMED(bandwidth_write),
+    NAMED(bandwidth_request), NAMED(bandwidth_device_request), NAMED(bandwidth_wait),
+    NAMED(bandwidth_need), NAMED(bandwidth_end_window),
+    {"cbqri_bandwidth_end_window, all wait:", bandwidth_end_window, 1},
+    NAMED(capacity_reset), NAMED(capacity_read), NAMED(capacity_write),
+    {"cbqri_capacity_write, FLUSH_RCID:", capacity_flush, 0},
+    NAMED(capacity_fill), NAMED(capacity_evict),
 };
 enum { ENTRIES = sizeof entries / sizeof entries[0] };
 
@@ -71,42 +67,22 @@ enum { ENTRIES = sizeof entries / sizeof entries[0] };
 static void make_start(int mixed)
 {
     make_inputs(size, mixed);
-    now = start; /* for the lengths */
     must(cbqri_bandwidth_write(BANDWIDTH_OF(&start.bandwidth), 8, CBQRI_BW_ALLOC,
                                cbqri_holder(3, 1)), "operand");
     must(cbqri_capacity_write(CAPACITY_OF(&start.capacity), 8, CBQRI_BLOCK_MASK, 0xff),
          "operand");
 }
 
-/* The start state again, as far as the set-up has tables. */
-#define RESTORE(part, table) memcpy(now.part.table, start.part.table, start.part.table##_len)
-static void restore(void)
-{
-    RESTORE(bandwidth, record);
-    RESTORE(bandwidth, active);
-    RESTORE(bandwidth, configured);
-    RESTORE(bandwidth, used);
-    RESTORE(bandwidth, counters);
-    RESTORE(bandwidth, events);
-    RESTORE(bandwidth, waiters);
-    RESTORE(capacity, record);
-    RESTORE(capacity, masks);
-    RESTORE(capacity, counters);
-    RESTORE(capacity, events);
-    RESTORE(capacity, owners);
-}
-
 static uint64_t mean(const struct entry *entry)
 {
-    int calls = size->ncblks <= 64 ? CALLS : CALLS / 8;
     uint64_t sum = 0;
-    for (int i = 0; i < calls; i++) {
-        restore();
+    for (int i = 0; i < CALLS; i++) {
+        now = start;
         if (entry->waiting)
             all_wait(&now.bandwidth, size);
         sum += entry->count(&list[i]);
     }
-    return (sum + (uint64_t)calls / 2) / (uint64_t)calls;
+    return (sum + CALLS / 2) / CALLS;
 }
 
 static void print_head(void)
@@ -127,14 +103,13 @@ int main(void)
         for (int mixed = 0; mixed < 2; mixed++) {
             make_start(mixed);
             for (int i = 0; i < ENTRIES; i++)
-                if (s < entries[i].setups)
-                    means[i][s][mixed] = mean(&entries[i]);
+                means[i][s][mixed] = mean(&entries[i]);
         }
     }
     print_head();
     for (int i = 0; i < ENTRIES; i++) {
         printf("%s", entries[i].name);
-        for (int s = 0; s < entries[i].setups; s++)
+        for (int s = 0; s < SETUPS; s++)
             printf(" %" PRIu64 " %" PRIu64, means[i][s][1], means[i][s][0]);
         printf("\n");
     }

@@ -49,8 +49,8 @@ static uint64_t used_stack(void)
 /* ---- The calls: each entry point, on set-ups from the smallest to the largest ---- */
 
 static const struct { uint64_t nr, na, nm, ncblks, u; } sizes[] = {
-    {1, 1, 1, 1, 1}, {4, 2, 4, 16, 4}, {16, 8, 64, 100, 8}, {64, 2, 16, 32, 16},
-    {43, 3, 100, 65, 5}, {256, 8, 256, 1024, 64}};
+    {1, 1, 1, 1, 1}, {4, 2, 4, 16, 4}, {16, 8, 64, 40, 8}, {64, 2, 16, 32, 16},
+    {43, 3, 100, 33, 5}, {256, 8, 256, 64, 64}};
 enum { SIZES = sizeof sizes / sizeof sizes[0] };
 static uint64_t nr, na, nm, ncblks, u, offset, value, out, pool;
 static struct bandwidth_buffers bw;
@@ -76,19 +76,14 @@ ENTRY(capacity_read, CAPACITY_OF(&cc), 8, offset, &out)
 ENTRY(capacity_write, CAPACITY_OF(&cc), 8, offset, value)
 ENTRY(capacity_fill, CAPACITY_OF(&cc), 0, 0, 0, 0, &out)
 ENTRY(capacity_evict, CAPACITY_OF(&cc), 0)
-ENTRY(capacity_count, CAPACITY_OF(&cc), 0, 0, &out)
 
-#define BANDWIDTH(name) {"cbqri_bandwidth_" #name, bandwidth_##name, 0}
-#define CAPACITY(name) {"cbqri_capacity_" #name, capacity_##name, 1}
-static const struct entry {
-    const char *name;
-    uint64_t (*call)(void);
-    int capacity;
-} entries[] = {
-    BANDWIDTH(reset), BANDWIDTH(read), BANDWIDTH(write), BANDWIDTH(request),
-    BANDWIDTH(device_request), BANDWIDTH(wait), BANDWIDTH(need), BANDWIDTH(end_window),
-    CAPACITY(reset), CAPACITY(read), CAPACITY(write), CAPACITY(fill), CAPACITY(evict),
-    CAPACITY(count),
+#define NAMED(name) {"cbqri_" #name, name}
+static const struct { const char *name; uint64_t (*call)(void); } entries[] = {
+    NAMED(bandwidth_reset), NAMED(bandwidth_read), NAMED(bandwidth_write),
+    NAMED(bandwidth_request), NAMED(bandwidth_device_request), NAMED(bandwidth_wait),
+    NAMED(bandwidth_need), NAMED(bandwidth_end_window),
+    NAMED(capacity_reset), NAMED(capacity_read), NAMED(capacity_write), NAMED(capacity_fill),
+    NAMED(capacity_evict),
 };
 
 static uint64_t refused;
@@ -112,21 +107,20 @@ static void set_up(int size)
     refused |= bandwidth_reset() | capacity_reset();
 }
 
-/* The largest over every register and operation; bw_alloc or all of block_mask first, so
- * that CONFIG_LIMIT has an operand. RCID 0 owns unit 0, and under it a request waits, but
- * where one is put to wait. */
-static uint64_t largest(const struct entry *entry, int size)
+/* The largest over every register and operation; bw_alloc or block_mask first, so that
+ * CONFIG_LIMIT has an operand. RCID 0 owns unit 0, and under it a request waits, but where
+ * one is put to wait. */
+static uint64_t largest(uint64_t (*call)(void), int size)
 {
     uint64_t largest = 0;
     set_up(size);
-    for (offset = entry->capacity ? CBQRI_CAPACITY_SPAN(ncblks) : CBQRI_SPAN; offset > 0;) {
+    for (offset = CBQRI_SPAN; offset > 0;) {
         offset -= 8;
         for (uint64_t op = CBQRI_CONFIG_LIMIT; op <= CBQRI_FLUSH_RCID; op++) {
             value = cbqri_mon_ctl(op, 0, 0, CBQRI_EVENT_BYTES, 0);
-            put_word(bw.waiters, 0, 8,
-                     entry->call == bandwidth_wait ? 0 : cbqri_waiter(6000, 0, 0, 1));
+            put_word(bw.waiters, 0, 8, call == bandwidth_wait ? 0 : cbqri_waiter(6000, 0, 0, 1));
             put_word(cc.owners, 0, 4, cbqri_owner(0, 0, 0));
-            uint64_t used = measure(entry->call);
+            uint64_t used = measure(call);
             largest = used > largest ? used : largest;
         }
     }
@@ -144,7 +138,7 @@ int main(void)
     for (unsigned i = 0; i < sizeof entries / sizeof entries[0]; i++) {
         printf("\n%s", entries[i].name);
         for (int size = 0; size < SIZES; size++)
-            printf(" %" PRIu64, largest(&entries[i], size));
+            printf(" %" PRIu64, largest(entries[i].call, size));
     }
     printf("\n");
     return refused != 0;

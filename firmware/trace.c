@@ -1,23 +1,33 @@
 /*
  * The cases of rules P1 to P12 with their numbers, a few of a device's request, of
- * an RCID's weight, of requests that wait and of a cache's units and masks, then
- * random calls on both controllers from a fixed seed. Its output is the same on every
- * machine: a line for each 100 calls has their 100 answers (0, or the refusal's number,
- * a and b for 10 and 11) and a checksum of all that the calls so far have handed back
- * and left in record and tables. It ends with 1 where a case has another number, or
- * some answer never came up.
+ * an RCID's weight, of requests that wait and of a cache's units, then random calls
+ * on both controllers from a fixed seed. Its output is the same on every machine: a
+ * line for each 100 calls has their 100 answers (0, or the refusal's number, a and b
+ * for 10 and 11) and a checksum of all that the calls so far have handed back and
+ * left in record and tables. It ends with 1 where a case has another number, or some
+ * answer never came up.
  */
 #include "../bench/calls.h"
 
-#include "cache_cases.h"
+#include "../include/cbqri.h"
+
+#include <inttypes.h>
+#include <stdio.h>
 
 enum { CALLS = 20000, LINE = 100 };
 
 static const struct interface library = INTERFACE("library", cbqri_);
+static int failed;
 
 /* ---- The cases: one controller worked through ---- */
 
 static struct bandwidth_buffers b;
+
+static void expect(const char *name, uint64_t got, uint64_t want)
+{
+    printf("%s: 0x%016" PRIx64 "%s\n", name, got, got == want ? "" : " IS WRONG");
+    failed |= got != want;
+}
 
 static void set_up(uint64_t na)
 {
@@ -199,6 +209,90 @@ static void lone_cases(void)
     expect("P12", operation(CBQRI_ALLOC_CTL, 0x121) & UINT32_MAX, 0x101);
 }
 
+/* ---- The cases: units of a cache ---- */
+
+static struct capacity_buffers cc;
+
+static uint64_t cache_operation(uint64_t offset, uint64_t ctl)
+{
+    uint64_t value = 0;
+    failed |= cbqri_capacity_write(CAPACITY_OF(&cc), 8, offset, ctl) != 0;
+    failed |= cbqri_capacity_read(CAPACITY_OF(&cc), 8, offset, &value) != 0;
+    return cbqri_status(value);
+}
+
+static uint64_t fill(uint64_t rcid, uint64_t mcid, uint64_t at, uint64_t unit)
+{
+    uint64_t allowed = 2;
+    failed |= cbqri_capacity_fill(CAPACITY_OF(&cc), rcid, mcid, at, unit, &allowed) != 0;
+    return allowed;
+}
+
+static uint64_t evict(uint64_t unit)
+{
+    return cbqri_capacity_evict(CAPACITY_OF(&cc), unit);
+}
+
+static uint64_t flush(uint64_t rcid, uint64_t at)
+{
+    return cache_operation(CBQRI_ALLOC_CTL, cbqri_alloc_ctl(CBQRI_FLUSH_RCID, at, rcid));
+}
+
+/* The counters of MCIDs 1 and 0, as two digits. */
+static uint64_t counted(void)
+{
+    return get_word(cc.counters, 1, 8) << 4 | get_word(cc.counters, 0, 8);
+}
+
+static uint64_t owner_of(uint64_t unit)
+{
+    return get_word(cc.owners, unit, 4);
+}
+
+/* Four blocks of three units; RCID 1 has blocks 1 and 2 for AT 0, and nothing for AT 1. */
+static void set_up_cache(void)
+{
+    uint64_t value = 0;
+    capacity_lengths(&cc, 4, 2, 2, 2, 3);
+    expect("cache reset", cbqri_capacity_reset(4, 2, 2, 2, 24, 3, CAPACITY_OF(&cc)), 0);
+    cbqri_capacity_read(CAPACITY_OF(&cc), 8, CBQRI_CAPABILITIES, &value);
+    expect("cache capabilities", value, 0x1000401);
+    failed |= cbqri_capacity_write(CAPACITY_OF(&cc), 8, CBQRI_BLOCK_MASK, 6) != 0;
+    expect("cache CONFIG_LIMIT", cache_operation(CBQRI_ALLOC_CTL, 0x101), 1);
+    expect("cache MCID 0", cache_operation(CBQRI_MON_CTL, 0x100001), 1);
+    expect("cache MCID 1", cache_operation(CBQRI_MON_CTL, 0x100101), 1);
+}
+
+static void unit_cases(void)
+{
+    set_up_cache();
+    expect("fill, block 0", fill(1, 1, 0, 2), 0);
+    expect("fill, first unit of block 1", fill(1, 1, 0, 3), 1);
+    expect("fill, last unit of block 2", fill(1, 1, 0, 8), 1);
+    expect("fill, block 3", fill(1, 1, 0, 9), 0);
+    expect("fill, counted", counted(), 0x20);
+    expect("fill, owner", owner_of(3), cbqri_owner(1, 1, 0));
+    expect("fill, again", fill(1, 1, 0, 3), 1);
+    expect("fill, again, counted", counted(), 0x20);
+    expect("fill, not allowed, owned", fill(1, 0, 1, 3), 0);
+    expect("fill, not allowed, owner", owner_of(3), cbqri_owner(1, 1, 0));
+    expect("fill, of another", fill(0, 0, 1, 3), 1);
+    expect("fill, of another, counted", counted(), 0x11);
+    expect("evict, free", evict(0), 0);
+    expect("evict, unit 12", evict(12), CBQRI_REFUSED_UNIT);
+    expect("evict, counted", counted(), 0x11);
+    expect("flush, RCID 2", flush(2, 0), CBQRI_STATUS_BAD_ID);
+    expect("flush, RCID 1, AT 7", flush(1, 7), CBQRI_STATUS_OK);
+    expect("flush, counted", counted(), 0x01);
+    expect("flush, its unit", owner_of(8), 0);
+    expect("flush, the other's", owner_of(3), cbqri_owner(0, 0, 1));
+    expect("flush, mask", get_word(cc.masks, 2, 8), 6);
+    expect("evict", evict(3), 0);
+    expect("evict, counted", counted(), 0);
+    put_word(cc.owners, 0, 4, cbqri_owner(2, 0, 0));
+    expect("owners, RCID 2", evict(0), CBQRI_REFUSED_STATE);
+}
+
 /* ---- The random calls ---- */
 
 static struct trace {
@@ -257,7 +351,7 @@ int main(void)
     weight_cases();
     waiter_cases();
     lone_cases();
-    cache_cases();
+    unit_cases();
     for (int i = 0; i < CONTROLLERS; i++)
         while (traces[i].count < CALLS)
             make_round(&controllers[i], trace_call);

@@ -51,10 +51,9 @@
  * - Record, tables and the numbers that a call hands back must not overlap one
  *   another, and no pointer may be NULL.
  * - Calls on buffers that have no byte in common may run at the same time.
- *   Reads (cbqri_bandwidth_read, cbqri_bandwidth_need, cbqri_capacity_read,
- *   cbqri_capacity_count) of the same buffers may run at the same time too: a
- *   read writes nothing but *value, *need or *blocks. Any other call must have
- *   its buffers for itself.
+ *   Reads (cbqri_bandwidth_read, cbqri_bandwidth_need, cbqri_capacity_read) of
+ *   the same buffers may run at the same time too: a read writes nothing but
+ *   *value or *need. Any other call must have its buffers for itself.
  * - Buffers may be saved and restored like any bytes. A state that one version
  *   saved is taken by every version with the same major number and, while that
  *   is 0, the same minor number, and means the same there. Keep CBQRI_VERSION
@@ -63,8 +62,8 @@
  *
  * Every function returns 0, or the number of a refusal (below). A refused call
  * has changed no byte of record and tables; what it hands back through pointers
- * (*value, *reserved and *pool, *need, *allowed, *blocks) it sets to 0, so that no
- * number of an earlier call stays there.
+ * (*value, *reserved and *pool, *need, *allowed) it sets to 0, so that no number
+ * of an earlier call stays there.
  *
  * Refusals are about the caller: what a driver asks of a register shows in
  * STATUS, and the call that carried its write returns 0. Three of them a driver
@@ -92,21 +91,13 @@
  *   NBWBLKS  bandwidth blocks                     1 to 65,535
  *   MRBWB    blocks that can be reserved          1 to NBWBLKS
  *   Q        bytes a block is worth in a window   1 to 65,536
- *   NCBLKS   capacity blocks                      1 to 1,024
+ *   NCBLKS   capacity blocks                      1 to 64
  *   U        units of a capacity block            1 to 64
- *
- *
- * MASKS
- *
- * A mask says by a bit for each capacity block whether a pair may fill it. It has
- * NCBLKS bits rounded up to a multiple of 64 (BMW), and so 1 to 16 words of 8
- * bytes, lowest first: block B is bit B % 64 of word B / 64. Bits NCBLKS and above
- * are 0.
  *
  *
  * RECORDS, in bytes from the start, 8 bytes for each number
  *
- *   bandwidth, 96 bytes              capacity, 200 bytes
+ *   bandwidth, 96 bytes              capacity, 80 bytes
  *    0 NBWBLKS                        0 NCBLKS
  *    8 MRBWB                          8 NR
  *   16 NR                            16 NA
@@ -116,22 +107,22 @@
  *   48 W                             48 mon_ctl
  *   56 mon_ctl                       56 mon_ctr_val
  *   64 mon_ctr_val                   64 alloc_ctl
- *   72 alloc_ctl                     72 block_mask, always 16 words, lowest first
+ *   72 alloc_ctl                     72 block_mask
  *   80 bw_alloc
  *   88 bytes the pool gave in this window
  *
  *
  * TABLES
  *
- * Those that go by pair hold the pair of RCID and AT at index RCID * NA + AT;
- * those of counters go by MCID, waiters by RCID. Owners go by unit: the units of
- * a block stand side by side, those of block 0 first, so that a unit's block is
- * its number divided by U, rounded down.
+ * Those with a word for each pair hold the pair of RCID and AT at index
+ * RCID * NA + AT; those of counters go by MCID, waiters by RCID. Owners go by
+ * unit: the units of a block stand side by side, those of block 0 first, so that
+ * a unit's block is its number divided by U, rounded down.
  *
  *   bandwidth: active      settings in force           4 bytes a pair
  *              configured  settings configured         4 bytes a pair
  *              used        bytes used of reservations  4 bytes a pair
- *   capacity:  masks       block masks                 BMW / 8 bytes a pair
+ *   capacity:  masks       block masks                 8 bytes a pair
  *   both:      counters    counter words               8 bytes an MCID
  *              events      counter settings            2 bytes an MCID
  *   bandwidth: waiters     requests that wait          8 bytes an RCID
@@ -153,8 +144,7 @@
  *   MRBWB;
  * - used is at most Rbwb * Q for a holder in force, and 0 for other pairs;
  * - the pool gave at most (NBWBLKS - all Rbwb in force) * Q;
- * - masks and block_mask have no bit at or above NCBLKS, so that words of
- *   block_mask beyond BMW are 0;
+ * - masks and block_mask have no bit at or above NCBLKS;
  * - counters are below 2^W, flags aside;
  * - a counter setting is 0 or has a known EVT_ID other than 0, with ATV 1 only
  *   if NA is above 1 and AT below NA, and AT 0 if ATV is 0;
@@ -168,9 +158,7 @@
  *
  * REGISTERS
  *
- * They are read and written in 4 or 8 bytes. Those of the bandwidth controller
- * end at byte 40, those of the capacity controller at 32 + BMW / 8: at 40 with up
- * to 64 blocks, at 160 with 1,024.
+ * Each controller spans 40 bytes and is read and written in 4 or 8 bytes.
  *
  *    0 capabilities  VER 7:0 (0x01), and NBWBLKS 23:8, MRBWB 47:32 for
  *                    bandwidth, NCBLKS 23:8, FRCID 24 (1) for capacity
@@ -180,14 +168,13 @@
  *                    capacity: CTR 62:0, INVALID 63
  *   24 alloc_ctl     OP 4:0, AT 7:5, RCID 19:8, STATUS 38:32, BUSY 39
  *   32 bw_alloc      Rbwb 15:0, Mweight 27:20, sharedAT 30:28, useShared 31
- *      block_mask    a mask: word 0 at 32, word 1 at 40, and so on
+ *      block_mask    a bit for each capacity block
  *
  * Other bits read 0 and writes to them are dropped, as are writes to
  * capabilities and mon_ctr_val. A write of a control register, whole or its
  * low half, performs the operation before it returns, so BUSY reads 0; a write
  * of its high half does nothing. With NA 1 the AT and ATV of the control
- * registers are held as 0. Each word of block_mask, and either half of a word, may
- * be read and written alone; the rest of the mask stays.
+ * registers are held as 0. Either half of block_mask may be written alone.
  *
  *
  * DEVICES
@@ -210,11 +197,11 @@
 #include <stdint.h>
 
 /* The version of this header and of the library beside it (CHANGELOG.md).
- * CBQRI_VERSION is one number, to be compared: 8000 for 0.8.0. */
+ * CBQRI_VERSION is one number, to be compared: 7000 for 0.7.0. */
 #define CBQRI_VERSION_MAJOR 0
-#define CBQRI_VERSION_MINOR 8
+#define CBQRI_VERSION_MINOR 7
 #define CBQRI_VERSION_PATCH 0
-#define CBQRI_VERSION_STRING "0.8.0"
+#define CBQRI_VERSION_STRING "0.7.0"
 #define CBQRI_VERSION                                                                     \
     (CBQRI_VERSION_MAJOR * 1000000 + CBQRI_VERSION_MINOR * 1000 + CBQRI_VERSION_PATCH)
 
@@ -224,13 +211,10 @@ extern "C" {
 
 /* Lengths of records and tables in bytes. */
 #define CBQRI_BANDWIDTH_RECORD_LEN 96
-#define CBQRI_CAPACITY_RECORD_LEN 200
+#define CBQRI_CAPACITY_RECORD_LEN 80
 /* active, configured and used, each */
 #define CBQRI_SETTINGS_LEN(nr, na) (4 * (size_t)(nr) * (size_t)(na))
-/* words of 8 bytes in a mask, BMW / 64 */
-#define CBQRI_MASK_WORDS(ncblks) (((size_t)(ncblks) + 63) / 64)
-#define CBQRI_MASKS_LEN(nr, na, ncblks)                                                   \
-    (8 * CBQRI_MASK_WORDS(ncblks) * (size_t)(nr) * (size_t)(na))
+#define CBQRI_MASKS_LEN(nr, na) (8 * (size_t)(nr) * (size_t)(na))
 #define CBQRI_COUNTERS_LEN(nm) (8 * (size_t)(nm))
 #define CBQRI_EVENTS_LEN(nm) (2 * (size_t)(nm))
 #define CBQRI_WAITERS_LEN(nr) (8 * (size_t)(nr))
@@ -242,7 +226,7 @@ enum {
     CBQRI_REFUSED_LENGTH = 2,         /* a table of another length than the set-up says */
     CBQRI_REFUSED_STATE = 3,          /* record or table not well formed; not checked by a reset */
     CBQRI_REFUSED_SIZE = 4,           /* access neither of 4 nor of 8 bytes */
-    CBQRI_REFUSED_OFFSET = 5,         /* offset no multiple of the size, or end past registers */
+    CBQRI_REFUSED_OFFSET = 5,         /* offset no multiple of the size, or end beyond byte 40 */
     CBQRI_REFUSED_VALUE = 6,          /* 4-byte write of a value of 2^32 or more */
     CBQRI_REFUSED_IDENTIFIER = 7,     /* RCID at or above NR, or MCID at or above NM */
     CBQRI_REFUSED_UNIT = 8,           /* unit at or above NCBLKS * U */
@@ -258,12 +242,9 @@ enum {
     CBQRI_MON_CTR_VAL = 16,
     CBQRI_ALLOC_CTL = 24,
     CBQRI_BW_ALLOC = 32,   /* bandwidth */
-    CBQRI_BLOCK_MASK = 32, /* capacity; its word N is 8 * N further on */
-    CBQRI_SPAN = 40        /* bytes of the bandwidth controller's registers */
+    CBQRI_BLOCK_MASK = 32, /* capacity */
+    CBQRI_SPAN = 40        /* bytes of a controller's registers */
 };
-
-/* Bytes of the capacity controller's registers. */
-#define CBQRI_CAPACITY_SPAN(ncblks) (CBQRI_BLOCK_MASK + 8 * CBQRI_MASK_WORDS(ncblks))
 
 /* OP of alloc_ctl and of mon_ctl. */
 enum {
@@ -611,11 +592,10 @@ static inline uint64_t cbqri_bw_end_window(const struct cbqri_bw *c)
 /* ------------------------------------------------------------------------
  * The capacity controller
  *
- * CONFIG_LIMIT stores block_mask, all words of it, as the mask of a pair, in
- * force at once; it ends in STATUS 5 if all words are 0. So a driver writes a mask
- * word by word, and no part of it governs alone. Masks may overlap. READ_LIMIT
- * copies all words of the pair's mask into block_mask. The monitoring operations
- * are those of the bandwidth controller.
+ * CONFIG_LIMIT stores block_mask as the mask of a pair, in force at once; it
+ * ends in STATUS 5 if block_mask is 0. Masks may overlap. READ_LIMIT copies
+ * the pair's mask into block_mask. The monitoring operations are those of the
+ * bandwidth controller.
  *
  * Each block has U units. A unit that was filled has an owner, the RCID, MCID and
  * AT of that fill, until it is evicted. FLUSH_RCID evicts every unit that the RCID
@@ -679,15 +659,6 @@ uint64_t cbqri_capacity_evict(uint8_t *record, size_t record_len,
                               uint8_t *owners, size_t owners_len,
                               uint64_t unit);
 
-/* How many blocks RCID and AT (at or above NA counts as 0) may fill by their mask
- * goes to *blocks, 0 for a pair never set. Refusals: 1 to 3, 7 (the RCID alone). */
-uint64_t cbqri_capacity_count(const uint8_t *record, size_t record_len,
-                              const uint8_t *masks, size_t masks_len,
-                              const uint8_t *counters, size_t counters_len,
-                              const uint8_t *events, size_t events_len,
-                              const uint8_t *owners, size_t owners_len,
-                              uint64_t rcid, uint64_t at, uint64_t *blocks);
-
 /* ---- The same on a view ---- */
 
 /* Record and tables of a capacity controller. */
@@ -702,7 +673,7 @@ struct cbqri_cc_setup {
 
 /* Bytes of record and tables together. */
 #define CBQRI_CC_LEN(ncblks, nr, na, nm, u)                                               \
-    (CBQRI_CAPACITY_RECORD_LEN + CBQRI_MASKS_LEN(nr, na, ncblks) + CBQRI_COUNTERS_LEN(nm) + \
+    (CBQRI_CAPACITY_RECORD_LEN + CBQRI_MASKS_LEN(nr, na) + CBQRI_COUNTERS_LEN(nm) +       \
      CBQRI_EVENTS_LEN(nm) + CBQRI_OWNERS_LEN(ncblks, u))
 
 /* A view of CBQRI_CC_LEN(ncblks, nr, na, nm, u) bytes: the record and then the
@@ -712,7 +683,7 @@ static inline struct cbqri_cc cbqri_cc_view(uint8_t *bytes, uint64_t ncblks, uin
 {
     struct cbqri_cc c;
     c.record_len = CBQRI_CAPACITY_RECORD_LEN;
-    c.masks_len = CBQRI_MASKS_LEN(nr, na, ncblks);
+    c.masks_len = CBQRI_MASKS_LEN(nr, na);
     c.counters_len = CBQRI_COUNTERS_LEN(nm);
     c.events_len = CBQRI_EVENTS_LEN(nm);
     c.owners_len = CBQRI_OWNERS_LEN(ncblks, u);
@@ -755,12 +726,6 @@ static inline uint64_t cbqri_cc_fill(const struct cbqri_cc *c, uint64_t rcid, ui
 static inline uint64_t cbqri_cc_evict(const struct cbqri_cc *c, uint64_t unit)
 {
     return cbqri_capacity_evict(CBQRI_CC_BUFFERS(c), unit);
-}
-
-static inline uint64_t cbqri_cc_count(const struct cbqri_cc *c, uint64_t rcid, uint64_t at,
-                                      uint64_t *blocks)
-{
-    return cbqri_capacity_count(CBQRI_CC_BUFFERS(c), rcid, at, blocks);
 }
 
 #ifdef __cplusplus

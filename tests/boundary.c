@@ -1,5 +1,5 @@
 /*
- * Random calls of all fourteen functions, accepted, refused, on damaged buffers and
+ * Random calls of all thirteen functions, accepted, refused, on damaged buffers and
  * with wrong lengths, from a fixed seed: each on buffers of exactly the lengths
  * said, alone on the heap, so that valgrind sees any byte beyond them. A refused
  * call must leave record and tables as they were and hand back 0 in each number.
@@ -16,7 +16,6 @@
 
 static const struct interface library = INTERFACE("library", cbqri_);
 static uint64_t answers[CONTROLLERS][ANSWERS];
-static int outcomes[CONTROLLERS][KINDS][2]; /* whether a function was accepted, and refused */
 
 static void *block(const void *contents, size_t length)
 {
@@ -54,7 +53,6 @@ static void call_on_heap(const struct controller *k, const struct slice *list,
         exit(1);
     }
     answers[k->place][answer]++;
-    outcomes[k->place][c->kind][answer != 0] = 1;
     for (int i = 0; i < k->slices; i++) {
         memcpy(list[i].at, copies[i].at, list[i].length);
         free(copies[i].at);
@@ -63,8 +61,7 @@ static void call_on_heap(const struct controller *k, const struct slice *list,
         free(out[i]);
 }
 
-/* Prints how often each answer came up; each that the controller gives must have,
- * and each of its functions must have been accepted and refused. */
+/* Prints how often each answer came up; each that the controller gives must have. */
 static int all_seen(const struct controller *k)
 {
     int seen = 1;
@@ -73,8 +70,6 @@ static int all_seen(const struct controller *k)
         printf(" %" PRIu64, answers[k->place][i]);
         seen &= answers[k->place][i] > 0 || !(k->answers >> i & 1);
     }
-    for (int i = 0; i < KINDS && k->calls[i] != NULL; i++)
-        seen &= outcomes[k->place][i][0] && outcomes[k->place][i][1];
     printf("\n");
     return seen;
 }

@@ -1,8 +1,8 @@
 /*
  * Reads of the same buffers at the same time: the buffers lie on pages that
  * nobody may write, so that a read which wrote one byte would end the program,
- * and several threads read every register, some needs and the blocks of some
- * pairs and must all get the same.
+ * and several threads read every register and some needs and must all get the
+ * same.
  */
 #define _DEFAULT_SOURCE
 #include <cbqri.h>
@@ -12,10 +12,9 @@
 #include <stdlib.h>
 #include <sys/mman.h>
 
-enum { NCBLKS = 170, NR = 64, NA = 8, NM = 64, U = 4, THREADS = 4, ROUNDS = 500 };
-/* the last place and the last size are refused */
-enum { PLACES = CBQRI_CAPACITY_SPAN(NCBLKS) / 4 + 1, SIZES = 3 };
-enum { NUMBERS = 8, NEED = 4444, THREE_BLOCKS = 0x70 };
+enum { NCBLKS = 40, NR = 64, NA = 8, NM = 64, U = 16, THREADS = 4, ROUNDS = 500 };
+enum { PLACES = CBQRI_SPAN / 4 + 1, SIZES = 3 }; /* the last place and the last size are refused */
+enum { NUMBERS = 6, NEED = 4444 };
 
 static const uint64_t sizes[SIZES] = {4, 8, 2};
 static struct cbqri_bw bw;
@@ -30,15 +29,13 @@ static void must(int holds, const char *what)
     exit(1);
 }
 
-/* Of both controllers a register, and the need and the blocks of an RCID, of which the
- * last is refused; the place of the size is the AT. */
+/* Of both controllers a register, and the need of an RCID, of which the last is refused. */
 static void read_all(int place, int size, uint64_t got[NUMBERS])
 {
     uint64_t rcid = place == PLACES - 1 ? NR : (uint64_t)place;
     got[0] = cbqri_bw_read(&bw, sizes[size], 4 * (uint64_t)place, &got[1]);
     got[2] = cbqri_cc_read(&cc, sizes[size], 4 * (uint64_t)place, &got[3]);
     got[4] = cbqri_bw_need(&bw, rcid, &got[5]);
-    got[6] = cbqri_cc_count(&cc, rcid, (uint64_t)size, &got[7]);
 }
 
 static void *reader(void *unused)
@@ -77,8 +74,6 @@ static void set_up(void)
     refused |= cbqri_bw_write(&bw, 8, CBQRI_MON_CTL, cbqri_mon_ctl(CBQRI_READ_COUNTER, 0, 3, 0, 0));
     refused |= cbqri_bw_write(&bw, 8, CBQRI_ALLOC_CTL, cbqri_alloc_ctl(CBQRI_READ_LIMIT, 0, 0));
     refused |= cbqri_cc_fill(&cc, 0, 3, 1, NCBLKS * U - 1, &allowed);
-    refused |= cbqri_cc_write(&cc, 8, CBQRI_BLOCK_MASK + 16, THREE_BLOCKS);
-    refused |= cbqri_cc_write(&cc, 8, CBQRI_ALLOC_CTL, cbqri_alloc_ctl(CBQRI_CONFIG_LIMIT, 0, 3));
     refused |= cbqri_cc_write(&cc, 8, CBQRI_ALLOC_CTL, cbqri_alloc_ctl(CBQRI_READ_LIMIT, 1, 0));
     must(refused == 0 && reserved == 1234 && pool == 0 && allowed == 1, "the set-up");
     must(mprotect(bw.record, CBQRI_BW_LEN(NR, NA, NM), PROT_READ) == 0 &&
@@ -95,9 +90,6 @@ int main(void)
     must(wanted[CBQRI_MON_CTR_VAL / 4][1][1] == 1234, "the counter");
     must(wanted[3][0][5] == NEED && wanted[2][0][5] == 0, "a need");
     must(wanted[PLACES - 1][0][4] == CBQRI_REFUSED_IDENTIFIER, "the need of an unknown RCID");
-    must(wanted[0][1][7] == NCBLKS && wanted[3][0][7] == 3 && wanted[3][1][7] == 0, "a count");
-    must(wanted[PLACES - 1][0][6] == CBQRI_REFUSED_IDENTIFIER && wanted[PLACES - 1][0][7] == 0,
-         "the count of an unknown RCID");
     for (int i = 0; i < THREADS; i++)
         must(pthread_create(&threads[i], NULL, reader, NULL) == 0, "pthread_create");
     for (int i = 0; i < THREADS; i++)

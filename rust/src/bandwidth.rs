@@ -235,7 +235,7 @@ impl Bandwidth {
     /// is no such pair.
     #[must_use]
     pub fn active(&self, rcid: u64, at: u64) -> Option<Setting> {
-        Setting::of(word(&self.buffers.active, self.pair(rcid, at)?, 4)?)
+        Setting::of(self.word_of_pair(&self.buffers.active, 4, rcid, at)?)
     }
 
     /// The setting configured for a pair, which comes into force when the
@@ -264,14 +264,14 @@ impl Bandwidth {
     /// ```
     #[must_use]
     pub fn configured(&self, rcid: u64, at: u64) -> Option<Setting> {
-        Setting::of(word(&self.buffers.configured, self.pair(rcid, at)?, 4)?)
+        Setting::of(self.word_of_pair(&self.buffers.configured, 4, rcid, at)?)
     }
 
     /// Bytes that a pair used of its reservation in this window; `None` if
     /// there is no such pair.
     #[must_use]
     pub fn used(&self, rcid: u64, at: u64) -> Option<u64> {
-        word(&self.buffers.used, self.pair(rcid, at)?, 4)
+        self.word_of_pair(&self.buffers.used, 4, rcid, at)
     }
 
     fn used_of_holder(&self, rcid: u64, at: u64) -> Option<u64> {

@@ -1,11 +1,9 @@
-mod mask;
 mod units;
 
 use crate::common::{buffers, controller};
-use crate::parts::{number, pair, ByMcid, ByPair, Flags, Hex};
+use crate::parts::{number, pair, word, ByMcid, ByPair, Flags, Hex};
 use crate::{ffi, registers, table_len, Counter, Refusal};
 
-pub use mask::Mask;
 pub use units::Owner;
 
 use std::fmt;
@@ -14,7 +12,7 @@ use units::Units;
 /// Set-up of a capacity controller.
 #[derive(Clone, Copy, Debug, PartialEq, Eq)]
 pub struct CapacitySetup {
-    /// Capacity blocks, 1 to 1,024.
+    /// Capacity blocks, 1 to 64.
     pub ncblks: u64,
     /// RCIDs, 1 to 256.
     pub nr: u64,
@@ -35,8 +33,7 @@ buffers! {
     CapacityBuffers {
         /// Set-up and registers.
         record,
-        /// Block masks, as many words of 8 bytes for each pair of RCID and AT as
-        /// [`mask_words`](registers::mask_words) says.
+        /// Block masks, 8 bytes for each pair of RCID and AT.
         masks,
         /// Counter words, 8 bytes for each MCID.
         counters,
@@ -50,8 +47,8 @@ buffers! {
 impl CapacityBuffers {
     fn new(setup: &CapacitySetup) -> CapacityBuffers {
         CapacityBuffers {
-            record: vec![0; 200],
-            masks: vec![0; table_len(8 * registers::mask_words(setup.ncblks), setup.nr, setup.na)],
+            record: vec![0; 80],
+            masks: vec![0; table_len(8, setup.nr, setup.na)],
             counters: vec![0; table_len(8, setup.nm, 1)],
             events: vec![0; table_len(2, setup.nm, 1)],
             owners: vec![0; table_len(4, setup.ncblks, setup.u)],
@@ -60,7 +57,7 @@ impl CapacityBuffers {
 }
 
 /// A capacity controller. `Debug` shows set-up, registers, the masks that are
-/// not empty, the counters that were used and the units that have an owner.
+/// not 0, the counters that were used and the units that have an owner.
 ///
 /// ```
 /// use cbqri::{registers as reg, Capacity, CapacitySetup};
@@ -88,13 +85,13 @@ impl fmt::Debug for Capacity {
     fn fmt(&self, f: &mut fmt::Formatter<'_>) -> fmt::Result {
         let CapacitySetup { nr, na, nm, .. } = self.setup();
         let record = &self.buffers.record;
-        let set = |rcid, at| self.mask(rcid, at).filter(|mask| !mask.is_empty());
+        let set = |rcid, at| self.mask(rcid, at).filter(|mask| *mask != 0).map(Hex);
         f.debug_struct("Capacity")
             .field("setup", &self.setup())
             .field("mon_ctl", &Hex(number(record, 6)))
             .field("mon_ctr_val", &Hex(number(record, 7)))
             .field("alloc_ctl", &Hex(number(record, 8)))
-            .field("block_mask", &self.block_mask())
+            .field("block_mask", &Hex(number(record, 9)))
             .field("masks", &ByPair { nr, na, get: &set })
             .field("counters", &ByMcid { nm, get: &|mcid| self.counter(mcid) })
             .field("owners", &Units(self))
@@ -121,5 +118,21 @@ impl Capacity {
     pub fn setup(&self) -> CapacitySetup {
         let at = |index| number(&self.buffers.record, index);
         CapacitySetup { ncblks: at(0), nr: at(1), na: at(2), nm: at(3), w: at(4), u: at(5) }
+    }
+
+    /// The block mask of a pair, in force at once; 0 if it was never set, and
+    /// `None` if there is no such pair.
+    ///
+    /// ```
+    /// use cbqri::{Capacity, CapacitySetup};
+    ///
+    /// let setup = CapacitySetup { ncblks: 4, nr: 2, na: 1, nm: 1, w: 24, u: 1 };
+    /// let cc = Capacity::new(setup).unwrap();
+    /// assert_eq!((cc.mask(0, 0), cc.mask(1, 0), cc.mask(2, 0)), (Some(0xf), Some(0), None));
+    /// assert!(format!("{cc:?}").contains("masks: {(0, 0): 0x000000000000000f}"));
+    /// ```
+    #[must_use]
+    pub fn mask(&self, rcid: u64, at: u64) -> Option<u64> {
+        self.word_of_pair(&self.buffers.masks, 8, rcid, at)
     }
 }

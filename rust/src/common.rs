@@ -77,10 +77,10 @@ macro_rules! controller {
                 ffi::$write(&mut self.buffers, size, offset, value)
             }
 
-            /// A table's index of a pair, if there is such a pair.
-            fn pair(&self, rcid: u64, at: u64) -> Option<usize> {
+            /// The word of a pair in a table of words of this width.
+            fn word_of_pair(&self, table: &[u8], width: usize, rcid: u64, at: u64) -> Option<u64> {
                 let $setup { nr, na, .. } = self.setup();
-                pair(nr, na, rcid, at)
+                word(table, pair(nr, na, rcid, at)?, width)
             }
         }
     };

@@ -65,4 +65,3 @@ capacity!(mut cbqri_capacity_write(; size: u64, offset: u64, value: u64));
 capacity!(mut cbqri_capacity_fill(; rcid: u64, mcid: u64, at: u64, unit: u64,
     allowed: &mut u64));
 capacity!(mut cbqri_capacity_evict(; unit: u64));
-capacity!(const cbqri_capacity_count(; rcid: u64, at: u64, blocks: &mut u64));

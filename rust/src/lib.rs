@@ -60,7 +60,7 @@ mod parts;
 pub mod registers;
 
 pub use bandwidth::{Bandwidth, BandwidthBuffers, BandwidthSetup, Grant, Kind, Waiter};
-pub use capacity::{Capacity, CapacityBuffers, CapacitySetup, Mask, Owner};
+pub use capacity::{Capacity, CapacityBuffers, CapacitySetup, Owner};
 pub use parts::{Counter, Setting};
 
 use std::fmt;
@@ -76,13 +76,12 @@ pub const VERSION: &str = env!("CARGO_PKG_VERSION");
 /// ```
 /// use cbqri::{Capacity, CapacitySetup, Refusal};
 ///
-/// let wrong = CapacitySetup { ncblks: 1025, nr: 4, na: 1, nm: 4, w: 24, u: 2 };
+/// let wrong = CapacitySetup { ncblks: 65, nr: 4, na: 1, nm: 4, w: 24, u: 2 };
 /// assert_eq!(Capacity::new(wrong).err(), Some(Refusal::Setup));
 ///
 /// let mut cc = Capacity::new(CapacitySetup { ncblks: 64, ..wrong }).unwrap();
 /// assert_eq!(cc.read(2, 0), Err(Refusal::Size));
 /// assert_eq!(cc.read(8, 36), Err(Refusal::Offset));
-/// assert_eq!(cc.read(8, 40), Err(Refusal::Offset));
 /// assert_eq!(cc.write(4, 32, 1 << 32), Err(Refusal::Value));
 /// assert_eq!(cc.fill(4, 0, 0, 0), Err(Refusal::Identifier));
 /// assert_eq!(cc.fill(0, 0, 0, 128), Err(Refusal::Unit));
@@ -100,7 +99,7 @@ pub enum Refusal {
     State = 3,
     /// The access is neither of 4 nor of 8 bytes.
     Size = 4,
-    /// The offset is no multiple of the size, or the access ends beyond the registers.
+    /// The offset is no multiple of the size, or the access ends beyond byte 40.
     Offset = 5,
     /// A 4-byte write carries a value of 2^32 or more.
     Value = 6,
@@ -144,7 +143,7 @@ impl fmt::Display for Refusal {
             Refusal::Length => "a table of another length than the set-up says",
             Refusal::State => "record or table not well formed",
             Refusal::Size => "access neither of 4 nor of 8 bytes",
-            Refusal::Offset => "offset no multiple of the size, or the end beyond the registers",
+            Refusal::Offset => "offset no multiple of the size, or the end beyond byte 40",
             Refusal::Value => "4-byte write of a value of 2^32 or more",
             Refusal::Identifier => "RCID at or above NR, or MCID at or above NM",
             Refusal::Unit => "unit at or above NCBLKS * U",
@@ -216,9 +215,9 @@ impl Status {
 
 /// A table's length, or 0 for numbers outside the ranges: the library then
 /// refuses the set-up, and nothing large is allocated.
-fn table_len(width: u64, rows: u64, columns: u64) -> usize {
-    if width <= 128 && rows <= 1024 && columns <= 64 {
-        (width * rows * columns) as usize
+fn table_len(width: usize, rows: u64, columns: u64) -> usize {
+    if rows <= 256 && columns <= 64 {
+        width * rows as usize * columns as usize
     } else {
         0
     }

@@ -11,9 +11,6 @@
 //! assert_eq!(reg::sharer(1), 0x9000_0000);
 //! assert_eq!(reg::iommu_qosid(1, 2), 0x0002_0001);
 //! assert_eq!(reg::dc_ta(1, 2), 0x0020_0100_0000_0000);
-//!
-//! // A mask of 100 blocks has two words, and the registers end with the second.
-//! assert_eq!((reg::mask_words(100), reg::block_mask(1), reg::capacity_span(100)), (2, 40, 48));
 //! ```
 
 /// VER, and NBWBLKS and MRBWB, or NCBLKS and FRCID; read-only.
@@ -26,9 +23,9 @@ pub const MON_CTR_VAL: u64 = 16;
 pub const ALLOC_CTL: u64 = 24;
 /// Bandwidth: Rbwb 15:0, Mweight 27:20, sharedAT 30:28, useShared 31.
 pub const BW_ALLOC: u64 = 32;
-/// Capacity: a bit for each block, in words of 8 bytes, lowest first; see [`block_mask`].
+/// Capacity: a bit for each block.
 pub const BLOCK_MASK: u64 = 32;
-/// Bytes of the bandwidth controller's registers; see [`capacity_span`].
+/// Bytes of a controller's registers.
 pub const SPAN: u64 = 40;
 
 /// OP of alloc_ctl: store bw_alloc or block_mask for a pair of RCID and AT.
@@ -68,24 +65,6 @@ pub const IOMMU_BARE: u64 = 1;
 /// Mode of an IOMMU with a device directory, as is any other number: a device
 /// has RCID and MCID of DC.ta.
 pub const IOMMU_DIRECTORY: u64 = 2;
-
-/// Words of 8 bytes in a mask of so many blocks.
-#[must_use]
-pub const fn mask_words(ncblks: u64) -> u64 {
-    ncblks / 64 + (ncblks % 64 != 0) as u64
-}
-
-/// The offset of a word of block_mask, counted from 0.
-#[must_use]
-pub const fn block_mask(word: u64) -> u64 {
-    BLOCK_MASK + 8 * word
-}
-
-/// Bytes of the capacity controller's registers.
-#[must_use]
-pub const fn capacity_span(ncblks: u64) -> u64 {
-    block_mask(mask_words(ncblks))
-}
 
 /// A word for alloc_ctl.
 #[must_use]

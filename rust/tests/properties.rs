@@ -11,16 +11,13 @@ use cbqri::{Refusal, Setting, Status};
 mod random;
 use random::Random;
 
-/// Masks of one word, of several and of all, full to the last bit or not.
-const NCBLKS: [u64; 8] = [1, 63, 64, 65, 100, 128, 1023, 1024];
-
 impl Random {
-    /// Size, offset and value of a write, at times a refused one; an operand has its offset.
-    fn write(&mut self, nr: u64, na: u64, nm: u64, operand: (u64, u64)) -> (u64, u64, u64) {
+    /// Size, offset and value of a write, at times a refused one.
+    fn write(&mut self, nr: u64, na: u64, nm: u64, operand: u64) -> (u64, u64, u64) {
         let (op, at) = (1 + self.about(2), self.about(na));
         let event = self.below(5);
         let (offset, value) = match self.below(5) {
-            0 | 1 => operand,
+            0 | 1 => (32, operand),
             2 | 3 => (24, reg::alloc_ctl(op, at, self.about(nr))),
             _ => (8, reg::mon_ctl(op, at, self.about(nm), event, self.below(2) == 1)),
         };
@@ -61,7 +58,7 @@ fn bandwidth_call(bw: &mut Bandwidth, random: &mut Random) -> Result<(), Refusal
         _ => {
             let holder = reg::holder(random.about(mrbwb) as u16, random.below(3) as u8);
             let operand = if random.below(4) == 0 { reg::sharer(random.about(na)) } else { holder };
-            let (size, offset, value) = random.write(nr, na, nm, (reg::BW_ALLOC, operand));
+            let (size, offset, value) = random.write(nr, na, nm, operand);
             bw.write(size, offset, value)
         }
     }
@@ -140,13 +137,11 @@ fn device_requests(bw: &Bandwidth, random: &mut Random) {
 fn capacity_call(cc: &mut Capacity, random: &mut Random) -> Result<(), Refusal> {
     let CapacitySetup { ncblks, nr, na, nm, u, .. } = cc.setup();
     let (rcid, mcid, at) = (random.about(nr), random.about(nm), random.about(na));
-    match random.below(7) {
+    match random.below(6) {
         0 | 1 => cc.fill(rcid, mcid, at, random.about(ncblks * u)).map(|_| ()),
         2 => cc.evict(random.about(ncblks * u)),
-        3 => cc.count(rcid, at).map(|_| ()),
         _ => {
-            let word = random.about(reg::mask_words(ncblks));
-            let operand = (reg::block_mask(word), random.below(u64::MAX));
+            let operand = random.below(1 << ncblks);
             let (size, offset, value) = random.write(nr, na, nm, operand);
             cc.write(size, offset, value)
         }
@@ -159,8 +154,7 @@ fn capacity_reads(cc: &Capacity, random: &mut Random) {
     let mut driver = cc.clone();
     driver.write(8, reg::ALLOC_CTL, reg::alloc_ctl(reg::READ_LIMIT, at, rcid)).unwrap();
     driver.write(8, reg::MON_CTL, reg::mon_ctl(reg::READ_COUNTER, 0, mcid, 0, false)).unwrap();
-    assert_eq!(Some(driver.block_mask()), cc.mask(rcid, at));
-    assert_eq!(cc.count(rcid, at).ok(), cc.mask(rcid, at).map(|mask| mask.count()));
+    assert_eq!(driver.read(8, reg::BLOCK_MASK).ok(), cc.mask(rcid, at));
     let counter = counter_word(cc.counter(mcid).unwrap(), reg::CAPACITY_INVALID);
     assert_eq!(driver.read(8, reg::MON_CTR_VAL), Ok(counter));
     assert_eq!((cc.mask(nr, 0), cc.mask(0, na), cc.counter(nm)), (None, None, None));
@@ -187,8 +181,7 @@ fn random_calls() {
         let setup = BandwidthSetup { nbwblks: 100, mrbwb: 90, nr, na, nm, q: 64, w: 24 };
         let mut bw = Bandwidth::new(setup).unwrap();
         assert_eq!(bw.setup(), setup);
-        let ncblks = NCBLKS[random.below(8) as usize];
-        let u = 1 + random.below(4);
+        let (ncblks, u) = (1 + random.below(40), 1 + random.below(4));
         let setup = CapacitySetup { ncblks, nr, na, nm, w: 24, u };
         let mut cc = Capacity::new(setup).unwrap();
         assert_eq!(cc.setup(), setup);
@@ -329,6 +322,6 @@ fn debug_is_short() {
     let setup = BandwidthSetup { nbwblks: 9, mrbwb: 9, nr: 256, na: 8, nm: 256, q: 1, w: 24 };
     let shown = format!("{:?}", Bandwidth::new(setup).unwrap());
     assert!(shown.len() < 2000, "{} bytes", shown.len());
-    let setup = CapacitySetup { ncblks: 1024, nr: 256, na: 8, nm: 256, w: 24, u: 64 };
-    assert!(format!("{:?}", Capacity::new(setup).unwrap()).len() < 3000);
+    let setup = CapacitySetup { ncblks: 64, nr: 256, na: 8, nm: 256, w: 24, u: 64 };
+    assert!(format!("{:?}", Capacity::new(setup).unwrap()).len() < 2000);
 }

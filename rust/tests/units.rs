@@ -10,8 +10,7 @@ use random::Random;
 
 /// A controller all of whose MCIDs count occupancy.
 fn any_controller(random: &mut Random) -> Capacity {
-    let most = if random.below(4) == 0 { 200 } else { 12 };
-    let (ncblks, u) = (1 + random.below(most), 1 + random.below(5));
+    let (ncblks, u) = (1 + random.below(12), 1 + random.below(5));
     let (nr, na) = (1 + random.below(4), 1 + random.below(3));
     let mut cc = Capacity::new(CapacitySetup { ncblks, nr, na, nm: 3, w: 24, u }).unwrap();
     for mcid in 0..3 {
@@ -30,8 +29,7 @@ fn owners(cc: &Capacity) -> Vec<Option<Owner>> {
 fn set_any(cc: &mut Capacity, random: &mut Random) {
     let CapacitySetup { ncblks, nr, na, .. } = cc.setup();
     let (rcid, at) = (random.below(nr), random.below(na));
-    let mask = (0..ncblks).filter(|_| random.below(2) == 1).collect();
-    cc.write_block_mask(&mask).unwrap();
+    cc.write(8, reg::BLOCK_MASK, random.below(1 << ncblks)).unwrap();
     cc.write(8, reg::ALLOC_CTL, reg::alloc_ctl(reg::CONFIG_LIMIT, at, rcid)).unwrap();
 }
 
@@ -46,7 +44,7 @@ fn check_fill(cc: &mut Capacity, random: &mut Random) -> bool {
     let expected = match () {
         _ if rcid >= nr || mcid >= nm => Err(Refusal::Identifier),
         _ if unit >= ncblks * u => Err(Refusal::Unit),
-        _ => Ok(before.mask(rcid, known_at).unwrap().has(unit / u)),
+        _ => Ok(before.mask(rcid, known_at).unwrap() >> (unit / u) & 1 == 1),
     };
     assert_eq!(cc.fill(rcid, mcid, at, unit), expected);
     if expected != Ok(true) {
@@ -86,7 +84,7 @@ fn check_flush(cc: &mut Capacity, random: &mut Random) -> usize {
     let status = Status::of_alloc(cc.read(8, reg::ALLOC_CTL).unwrap());
     assert_eq!(status, Some(if rcid < nr { Status::Ok } else { Status::BadId }));
     assert_eq!(cc.buffers().masks, before.buffers().masks);
-    assert_eq!(cc.block_mask(), before.block_mask());
+    assert_eq!(cc.read(8, reg::BLOCK_MASK), before.read(8, reg::BLOCK_MASK));
     let all = owners(&before);
     let others = |owner: &Owner| u64::from(owner.rcid) != rcid;
     let after: Vec<Option<Owner>> = all.iter().map(|owner| owner.filter(others)).collect();

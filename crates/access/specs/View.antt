@@ -1,5 +1,5 @@
--- The verdict of the checks that a call passes, as a number, and what they leave of a value.
-use Rattle.std.specs.Prelude.{◌≡◌, ℕ, ◌^◌, ◌<◌}
+-- The verdict of the checks that a call passes, as a number.
+use Rattle.std.specs.Prelude.{ℕ}
 use Rattle.access.specs.declared.Verdict.{Verdict}
 use Rattle.access.specs.declared.Verdict.TheVariants.{Passed, Failed}
 use Rattle.access.specs.Refusals.{number_of}
@@ -8,7 +8,3 @@ use Rattle.access.specs.Refusals.{number_of}
 abbrev pub verdict_of : Verdict → ℕ
 verdict_of Passed = 0
 verdict_of (Failed why) = number_of why
-
--- the value of a write that passes checks 4 and 6: half a register has 32 bits
-pub record Carried (size v : ℕ) : Type 0 where
-  pub half : (size ≡ 8 → ⊥) → v < 2 ^ 32

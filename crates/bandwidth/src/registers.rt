@@ -49,7 +49,7 @@ impl Record {
         ensures { (active configured used counters events waiters : List ℕ) (t : totals.Totals) → Passes (state self active configured used counters events waiters) t
             → outcome (reading_of result) (state self active configured used counters events waiters) ≡ step (state self active configured used counters events waiters) (read size offset) }
     {
-        match read_verdict(40, size, offset) {
+        match read_verdict(size, offset) {
             Verdict::Failed(why) => Reading::Refused(why),
             Verdict::Passed => {
                 let word = self.register(offset / 8);
@@ -146,7 +146,7 @@ impl Record {
                 record: self,
                 ack: Ack::Refused(why),
             },
-            Check::Passed(totals) => match write_verdict(40, size, offset, value) {
+            Check::Passed(totals) => match write_verdict(size, offset, value) {
                 Verdict::Failed(why) => Acked {
                     record: self,
                     ack: Ack::Refused(why),

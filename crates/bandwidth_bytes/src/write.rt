@@ -120,7 +120,7 @@ pub fn write(
 {
     match checked(record, active, configured, used, counters, events, waiters) {
         Check::Failed(number) => number,
-        Check::Passed(held) => match write_verdict(40, size, offset, value) {
+        Check::Passed(held) => match write_verdict(size, offset, value) {
             Verdict::Failed(why) => refusal_number(why),
             Verdict::Passed => {
                 let next = store(

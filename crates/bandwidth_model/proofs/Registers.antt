@@ -39,8 +39,6 @@ parts = record {
   nm = λ su. su.nm;
   resource = Bandwidth;
   table = λ s. s.alloc.configured;
-  operand = λ s. s.alloc.bw;
-  word_in = λ word i. word;
   bad = λ s v. bad_limit s.setup s.alloc.configured s.alloc.bw v;
   registers = registers;
 }
@@ -73,7 +71,6 @@ registered = record {
   alloc = alloc_ctl_lem;
   mon = mon_ctl_lem;
   operand = λ s size v. refl;
-  words = λ s. refl;
 }
 
 -- ---- with the ledger
@@ -136,7 +133,7 @@ agreeing : (s : State) (l : Ledger) → Inv s l → Agrees controller parts book
 unfolding settings_by
 agreeing s l i =
     subst⁻¹ (λ (k : Ledger). Agrees controller parts book s k) i.same
-    (record { na = refl; capabilities = refl; operand = refl; words = refl; status = λ v. refl; mon = λ v. refl; value = stored_form s.alloc.bw; sets = λ size v. refl })
+    (record { na = refl; capabilities = refl; operand = refl; status = λ v. refl; mon = λ v. refl; value = stored_form s.alloc.bw; sets = λ size v. refl })
 
 pub invariants : Invariants controller parts book tally Inv Counts
 invariants = record {

@@ -175,27 +175,6 @@ fn evict(cache: Cache, unit: u64) -> Cache {
     }
 }
 
-// How many blocks a pair may fill.
-fn blocks(cache: Cache, rcid: u64, at: u64) {
-    number(b"count RCID ", rcid);
-    number(b" AT ", at);
-    let masks = cache.masks;
-    let counters = cache.counters;
-    let events = cache.events;
-    let owners = cache.owners;
-    let reading = cache
-        .record
-        .count(&masks, &counters, &events, &owners, rcid, at)
-        .reading;
-    match reading {
-        Reading::Value(n) => {
-            number(b" ", n);
-            text(b"\n");
-        }
-        Reading::Refused(why) => refused(why),
-    }
-}
-
 // A controller after the reset with the example's set-up.
 fn reset() -> Cache {
     text(b"reset");
@@ -216,7 +195,7 @@ fn reset() -> Cache {
         mon_ctl: 0,
         mon_ctr_val: 0,
         alloc_ctl: 0,
-        block_mask: [0; 16],
+        block_mask: 0,
     };
     let done = blank.reset(&mut masks, &mut counters, &mut events, &mut owners, setup);
     let record = done.record;
@@ -274,10 +253,6 @@ fn main() {
     let cache = reset();
     read(cache, 0);
     let cache = configure(cache);
-    blocks(cache, 5, 0);
-    blocks(cache, 5, 1);
-    blocks(cache, 0, 1);
-    blocks(cache, 1, 0);
     // CONFIG_EVENT: MCID 0 counts occupancy
     let cache = write(cache, MON_CTL, 0x100001);
     let cache = fill_own(cache);

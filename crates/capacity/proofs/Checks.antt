@@ -11,23 +11,19 @@ use Rattle.fields.specs.Registers as reg
 use Rattle.fields.proofs.Registers.{capacity_counter_kept}
 use Rattle.tables.specs.Below.{all_below}
 use Rattle.tables.proofs.Tests.{and_l, and_r, and_in, not_not, eqb_in, is_true}
-use Rattle.tables.proofs.Laws.{all_at, every_below}
+use Rattle.tables.proofs.Laws.{every_below}
 use Rattle.access.specs.Checks as access
 use Rattle.access.specs.Checks.{◌gives◌, first}
-use Rattle.access.specs.Pairs.{pair, word_at, known_at}
-use Rattle.access.proofs.Pairs.{pair_inside, known_lt}
 use Rattle.access.proofs.Checks.{first_append, first_other, first_passes, none_holds}
 use Rattle.allocation.specs.Allocation.{control_ok}
 use Rattle.monitor.specs.Monitor.{mon_word, status_of, counter_ok, monitor_ok}
 use Rattle.monitor.proofs.Forms.{named_all}
 use Rattle.monitor.proofs.Counters.{counter_zero}
 use Rattle.unit_tables.specs.View.{CountersOk}
-use Rattle.capacity_model.specs.Rules.{Setup, setup_ok, pairs, mask_of}
+use Rattle.capacity_model.specs.Rules.{Setup, setup_ok, mask_of}
 use Rattle.capacity_model.specs.View.{Sized}
-use Rattle.capacity_model.specs.Model.{State, mask_for, allocation_ok, well_formed, lengths_ok, setup_checks, state_checks}
+use Rattle.capacity_model.specs.Model.{State, allocation_ok, well_formed, lengths_ok, setup_checks, state_checks}
 use Rattle.capacity_model.proofs.Setup.{ranges}
-use Rattle.capacity_model.proofs.Masks.{held_lt}
-use Rattle.capacity_masks.specs.View.{masks_held}
 use Rattle.capacity_model.proofs.Steps.{Passing}
 use Rattle.capacity.specs.Checked.{Passes, TablesTested}
 
@@ -100,26 +96,7 @@ module _ (s : State) where
   unfolding well_formed allocation_ok monitor_ok
   well_formed_is t h a b c ea eb ec =
       let z = t.sized in
-      rw (ea, eb, ec, t.masks_are, t.counters_are, t.events_are, t.owners_are, z.counters_long, z.events_long, z.owners_long, value_test h, and_one) refl
-
--- ---- no mask has a bit NCBLKS or above
-
-pub block_mask_low : (s : State) → Passes s → s.alloc.mask < 2 ^ s.setup.ncblks
-unfolding well_formed allocation_ok
-block_mask_low s p =
-    let t = p.wellformed in
-    let h : T (eqb s.alloc.mask (mask_of s.setup s.alloc.mask)) = search (and_l, and_r) depth 10 in
-    held_lt s.setup s.alloc.mask (eqb→eq s.alloc.mask (mask_of s.setup s.alloc.mask) h)
-
-pub mask_low : (s : State) → 0 ≡ first (state_checks s) 0 → (rcid at : ℕ) → rcid < s.setup.nr → mask_for s rcid at < 2 ^ s.setup.ncblks
-unfolding well_formed allocation_ok word_at pairs
-mask_low s e rcid at l =
-    let p = passes s e in
-    let su = s.setup in
-    let t = p.wellformed in
-    let all : T (masks_held su s.alloc.masks) = search (and_l, and_r) depth 10 in
-    let inside = pair_inside su.nr su.na rcid (known_at su.na at) l (known_lt su.na at p.ranges.na_low) in
-    held_lt su (mask_for s rcid at) (eqb→eq _ _ (all_at (pairs su) _ all (pair su.na rcid (known_at su.na at)) inside))
+      rw (ea, eb, ec, t.masks_are, t.counters_are, t.events_are, t.owners_are, z.masks_long, z.counters_long, z.events_long, z.owners_long, value_test h, and_one) refl
 
 -- ---- every counter is well formed; that of an MCID that is not there reads 0
 

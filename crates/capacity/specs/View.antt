@@ -2,7 +2,6 @@
 use Rattle.std.specs.Prelude.{true, false, List, ℕ}
 use Rattle.std.specs.Borrow.{Bor}
 use denote.Triple.Both.{Both}
-use Rattle.numbers.specs.Numbers.{number_in}
 use Rattle.access.specs.Refusals.{number_of}
 use Rattle.access.specs.declared.Ack.{Ack}
 use Rattle.access.specs.declared.Ack.TheVariants as ack
@@ -15,11 +14,11 @@ use Rattle.capacity.specs.declared.Record.{Record}
 use Rattle.capacity.specs.declared.Filling.{Filling}
 use Rattle.capacity.specs.declared.Filling.TheVariants as filling
 
--- the record, with block_mask as the number that its words hold, and the masks, counters, counter settings and owners
+-- the record with the masks, counters, counter settings and owners
 abbrev pub state : Record → List ℕ → List ℕ → List ℕ → List ℕ → State
 state r masks counters events owners = record {
   setup = setup_of r.setup;
-  alloc = allocation r.alloc_ctl (number_in r.block_mask) masks;
+  alloc = allocation r.alloc_ctl r.block_mask masks;
   monitor = record { ctl = r.mon_ctl; value = r.mon_ctr_val; counters = counters; events = events };
   owners = owners;
 }

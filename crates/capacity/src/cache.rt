@@ -1,21 +1,21 @@
-// Cache events, fills and evictions, flushes, and how many blocks a pair may fill.
-ghost use Rattle.std.specs.Prelude.{◌≡◌, cond, List, ℕ, ◌^◌, ◌<◌, get_or};
+// Cache events, fills and evictions, and flushes.
+ghost use Rattle.std.specs.Prelude.{◌≡◌, cond, List, ℕ, ◌<◌};
 ghost use Rattle.access.specs.Checks.{first};
+ghost use Rattle.access.specs.Pairs.{word_at, known_at};
 ghost use Rattle.access.specs.View.{verdict_of};
 ghost use Rattle.monitor.specs.Occupancy.{evicted};
 ghost use Rattle.units.specs.Owners.{flushed_owners};
 ghost use Rattle.units.specs.Counts.{flushed};
 ghost use Rattle.capacity_model.specs.View.{Ranges};
-ghost use Rattle.capacity_model.specs.Calls.{fill, evict, count};
+ghost use Rattle.capacity_model.specs.Calls.{fill, evict};
 ghost use Rattle.capacity_model.specs.Model.{unit_checks, fill_checks, step};
 ghost use Rattle.capacity_masks.specs.View.{setup_of};
-ghost use Rattle.capacity.specs.View.{state, before, after, outcome, ack_of, reading_of, filling_of};
-ghost use Rattle.capacity.specs.Checked.{Passed, WordOf, MaskOf, FillAnswered, evict_left};
+ghost use Rattle.capacity.specs.View.{state, before, after, outcome, ack_of, filling_of};
+ghost use Rattle.capacity.specs.Checked.{Passed, FillAnswered, evict_left};
 
-use crate::{Acked, Filled, Filling, Read, Record};
-use access::{Ack, Reading, Refusal, Verdict, known_at};
-use capacity_masks::{Setup, has_bit};
-use mask_tables::{count_bits, load};
+use crate::{Acked, Filled, Filling, Record};
+use access::{Ack, Refusal, Verdict, known_at};
+use capacity_masks::{Setup, has_block};
 use tables::word64;
 
 // Check 8.
@@ -53,34 +53,22 @@ pub fn flush_if(flushes: bool, owners: &mut [u32], counters: &mut [u64], events:
 }
 
 impl Record {
-    // The answer of a fill in a state that passes checks 1 to 3, by the word of the pair's mask that has the unit's block.
-    pub fn filling(self, word: u64, rcid: u64, mcid: u64, unit: u64) -> Filling
+    // The answer of a fill in a state that passes checks 1 to 3, by the mask of its pair.
+    pub fn filling(self, mask: u64, rcid: u64, mcid: u64, unit: u64) -> Filling
         requires { Ranges (setup_of self.setup) }
-        ensures { (ms ns es os : List ℕ) (at : ℕ) → Passed (state self ms ns es os) → ((i : ℕ) → get_or ms i 0 < 2 ^ 64)
-            → WordOf (state self ms ns es os) rcid at unit word → FillAnswered (state self ms ns es os) rcid mcid at unit result }
+        ensures { (ms ns es os : List ℕ) (at : ℕ) → Passed (state self ms ns es os) → (rcid < self.setup.nr → mask ≡ word_at self.setup.na ms rcid (known_at self.setup.na at))
+            → FillAnswered (state self ms ns es os) rcid mcid at unit result }
     {
         let setup = self.setup;
         match fill_verdict(setup, rcid, mcid, unit) {
             Verdict::Failed(why) => Filling::Refused(why),
             Verdict::Passed => {
-                if has_bit(word, setup.block_of(unit) % 64) {
+                if has_block(mask, setup.block_of(unit)) {
                     Filling::Allowed
                 } else {
                     Filling::NotAllowed
                 }
             }
-        }
-    }
-
-    // The answer of a count in a state that passes checks 1 to 3, by the pair's mask.
-    pub fn counting(self, mask: [u64; 16], rcid: u64) -> Reading
-        ensures { (ms ns es os : List ℕ) (at : ℕ) → Passed (state self ms ns es os) → MaskOf (state self ms ns es os) rcid at mask
-            → outcome (reading_of result) (state self ms ns es os) ≡ step (state self ms ns es os) (count rcid at) }
-    {
-        if self.setup.nr <= rcid {
-            Reading::Refused(Refusal::Identifier)
-        } else {
-            Reading::Value(count_bits(&mask))
         }
     }
 
@@ -116,8 +104,8 @@ impl Record {
             },
             Verdict::Passed => {
                 let setup = self.setup;
-                let word = word64(masks, setup.word_of(rcid, at, unit));
-                let filling = self.filling(word, rcid, mcid, unit);
+                let mask = word64(masks, setup.pair_at(rcid, at));
+                let filling = self.filling(mask, rcid, mcid, unit);
                 match filling {
                     Filling::Allowed => {
                         let known = known_at(setup.na, at);
@@ -169,34 +157,6 @@ impl Record {
                     }
                 }
             },
-        }
-    }
-
-    // How many blocks a pair may fill by its mask.
-    pub fn count(
-        self,
-        masks: &[u64],
-        counters: &[u64],
-        events: &[u16],
-        owners: &[u32],
-        rcid: u64,
-        at: u64,
-    ) -> Read
-        ensures { outcome (reading_of result.reading) (after result.«record» masks counters events owners) ≡ step (before self masks counters events owners) (count rcid at) }
-    {
-        match self.check(masks, counters, events, owners) {
-            Verdict::Failed(why) => Read {
-                record: self,
-                reading: Reading::Refused(why),
-            },
-            Verdict::Passed => {
-                let setup = self.setup;
-                let mask = load(masks, setup.mask_at(rcid, at), setup.mask_words() as usize);
-                Read {
-                    record: self,
-                    reading: self.counting(mask, rcid),
-                }
-            }
         }
     }
 }

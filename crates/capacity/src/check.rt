@@ -11,9 +11,8 @@ ghost use Rattle.capacity.specs.Checked.{TablesTested};
 use crate::Record;
 use access::{Refusal, Verdict};
 use allocation::control_ok;
-use capacity_masks::{Setup, masks_ok};
+use capacity_masks::{Setup, mask_of, masks_ok};
 use codes::Resource;
-use mask_tables::mask_fits;
 use monitor::{capacity_counters_ok, events_ok};
 use unit_tables::owners_ok;
 
@@ -30,10 +29,10 @@ impl Record {
         requires { Ranges (setup_of setup) }
         ensures { result ≡ lengths_ok (setup_of setup) (before self masks counters events owners) }
     {
-        let words = (setup.pairs() * setup.mask_words()) as usize;
+        let pairs = setup.pairs() as usize;
         let nm = setup.nm as usize;
         let units = setup.unit_count() as usize;
-        (masks.len() == words)
+        (masks.len() == pairs)
             & (counters.len() == nm)
             & (events.len() == nm)
             & (owners.len() == units)
@@ -45,9 +44,8 @@ impl Record {
         ensures { (ms ns es os : List ℕ) → TablesTested (setup_of self.setup) ms ns es os masks counters events owners → result ≡ well_formed (state self ms ns es os) }
     {
         let setup = self.setup;
-        let mask = self.block_mask;
         let allocation = control_ok(setup.na, self.alloc_ctl)
-            & mask_fits(&mask, setup.ncblks)
+            & (self.block_mask == mask_of(setup, self.block_mask))
             & masks;
         let monitoring = monitor::control_ok(setup.na, self.mon_ctl) & counters & events;
         allocation & monitoring & owners

@@ -5,17 +5,16 @@ mod registers;
 mod reset;
 
 use access::{Ack, Reading, Refusal};
-use allocation::Effect;
 use capacity_masks::Setup;
 
-// The set-up, and the registers as they read; block_mask has its words lowest first, and 0 in those that the set-up has no bit for.
+// The set-up, and the registers as they read.
 #[derive(Drop)]
 pub struct Record {
     pub setup: Setup,
     pub mon_ctl: u64,
     pub mon_ctr_val: u64,
     pub alloc_ctl: u64,
-    pub block_mask: [u64; 16],
+    pub block_mask: u64,
 }
 
 // The answer of a fill.
@@ -44,13 +43,14 @@ pub struct Filled {
     pub filling: Filling,
 }
 
-// The record, the words of the MCID that a written value names, and what is to be done to the pair and to the units of the RCID that it names.
+// The record, the words of the pair and of the MCID that a written value names, and whether the units of the RCID that it names are flushed.
 #[derive(Drop)]
 pub struct WriteWords {
     pub record: Record,
+    pub mask: u64,
     pub counter: u64,
     pub setting: u16,
-    pub effect: Effect,
+    pub flushes: bool,
 }
 
 // What a write answers and leaves.

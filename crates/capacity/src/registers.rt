@@ -1,24 +1,19 @@
 // Reads and writes of the registers.
-ghost use Rattle.std.specs.Prelude.{◌≡◌, List, ℕ, ◌+◌, ◌*◌, ◌^◌, ◌≤◌, ◌<◌, T, length};
-ghost use Rattle.numbers.specs.Numbers.{number_in};
-ghost use Rattle.access.specs.Access.{write_checks};
+ghost use Rattle.std.specs.Prelude.{◌≡◌, List, ℕ};
+ghost use Rattle.access.specs.Access.{registers_end, write_checks};
 ghost use Rattle.access.specs.Checks.{first};
 ghost use Rattle.capacity_model.specs.View.{Ranges};
 ghost use Rattle.capacity_model.specs.Calls.{read, write};
-ghost use Rattle.capacity_model.specs.Rules.{mask_words, registers_end, mask_written};
-ghost use Rattle.capacity_model.specs.Model.{capabilities, register, step};
-ghost use Rattle.capacity_masks.specs.View.{setup_of, allocation};
-ghost use Rattle.capacity_masks.specs.Words.{pair_of, limited};
+ghost use Rattle.capacity_model.specs.Model.{capabilities, register, write_at, step};
+ghost use Rattle.capacity_masks.specs.View.{setup_of};
 ghost use Rattle.capacity.specs.View.{state, before, after, outcome, ack_of, reading_of};
-ghost use Rattle.capacity.specs.Checked.{Passed, WordsIn, Stored, WriteAnswered};
+ghost use Rattle.capacity.specs.Checked.{Passed, WordsIn, wrote};
 
 use crate::cache::flush_if;
 use crate::{Acked, Read, Record, WriteWords, Wrote};
 use access::{Ack, Reading, Verdict, part, read_verdict, replaced, write_verdict};
-use allocation::Effect;
-use capacity_masks::{alloc_after, named_mask, named_rcid};
+use capacity_masks::{alloc_after, mask_of, named_pair, named_rcid};
 use fields::CapacityCapabilities;
-use mask_tables::{is_empty, load_if, mask_word, put_word, store_if};
 use monitor::{capacity_status, mon_after, named_mcid};
 use tables::{put16, put64, word16, word64};
 
@@ -41,13 +36,12 @@ impl Record {
         requires { Ranges (setup_of self.setup) }
         ensures { (ms ns es os : List ℕ) → result ≡ register (state self ms ns es os) n }
     {
-        let mask = self.block_mask;
         match n {
             0 => self.capabilities(),
             1 => self.mon_ctl,
             2 => self.mon_ctr_val,
             3 => self.alloc_ctl,
-            _ => mask_word(&mask, n - 4),
+            _ => self.block_mask,
         }
     }
 
@@ -56,7 +50,7 @@ impl Record {
         requires { Ranges (setup_of self.setup) }
         ensures { (ms ns es os : List ℕ) → Passed (state self ms ns es os) → outcome (reading_of result) (state self ms ns es os) ≡ step (state self ms ns es os) (read size offset) }
     {
-        match read_verdict(self.setup.registers_end(), size, offset) {
+        match read_verdict(size, offset) {
             Verdict::Failed(why) => Reading::Refused(why),
             Verdict::Passed => Reading::Value(part(size, offset, self.register(offset / 8))),
         }
@@ -85,43 +79,33 @@ impl Record {
         }
     }
 
-    // block_mask after a write of one of its words, or of either half of one.
-    fn mask_after(self, size: u64, offset: u64, value: u64) -> [u64; 16]
-        requires { Ranges (setup_of self.setup) × ((32 ≤ offset) × (first (write_checks (registers_end (setup_of self.setup)) size offset value) 0 ≡ 0)) }
-        ensures { number_in self.block_mask < 2 ^ self.setup.ncblks → number_in result ≡ mask_written (setup_of self.setup) size offset (number_in self.block_mask) value }
-    {
-        let i = offset / 8 - 4;
-        let mut mask = self.block_mask;
-        let word = replaced(size, offset, mask_word(&mask, i), value);
-        put_word(&mut mask, self.setup.ncblks, i, word);
-        mask
-    }
-
-    // Stores what an accepted write reaches, and decides the operation that it performs.
+    // Stores what an accepted write reaches, and performs its operation on the words that its value names.
     fn store(
         mut self,
+        mut mask: u64,
         mut counter: u64,
         mut setting: u16,
         size: u64,
         offset: u64,
         value: u64,
     ) -> WriteWords
-        requires { Ranges (setup_of self.setup) × (first (write_checks (registers_end (setup_of self.setup)) size offset value) 0 ≡ 0) }
-        ensures { (ms ns es os : List ℕ) → Passed (state self ms ns es os) → WordsIn (state self ms ns es os) value counter setting
-            → Stored (state self ms ns es os) size offset value result }
+        requires { Ranges (setup_of self.setup) × (first (write_checks registers_end size offset value) 0 ≡ 0) }
+        ensures { (ms ns es os : List ℕ) → WordsIn (state self ms ns es os) value mask counter setting
+            → wrote (setup_of self.setup) result ms ns es os value ≡ write_at (state self ms ns es os) size offset value }
     {
         let setup = self.setup;
-        let mut effect = Effect {
-            sets: false,
-            reads: false,
-            flushes: false,
-        };
+        let mut flushes = false;
         match offset {
             24 => {
-                let mask = self.block_mask;
-                let done = alloc_after(setup, is_empty(&mask), value);
+                let done = alloc_after(setup, self.block_mask, mask, value);
                 self.alloc_ctl = done.ctl;
-                effect = done.effect;
+                self.block_mask = done.operand;
+                mask = done.mask;
+                flushes = done.flushes;
+            }
+            32 | 36 => {
+                let word = replaced(size, offset, self.block_mask, value);
+                self.block_mask = mask_of(setup, word);
             }
             8 => {
                 let status = capacity_status(setup.na, setup.nm, value);
@@ -131,24 +115,21 @@ impl Record {
                 counter = done.counter;
                 setting = done.setting;
             }
-            _ => {
-                if 32 <= offset {
-                    let mask = self.mask_after(size, offset, value);
-                    self.block_mask = mask;
-                }
-            }
+            _ => {}
         }
         WriteWords {
             record: self,
+            mask,
             counter,
             setting,
-            effect,
+            flushes,
         }
     }
 
     // A write in a state that passes checks 1 to 3, on the words that its value names.
     pub fn write_words(
         self,
+        mask: u64,
         counter: u64,
         setting: u16,
         size: u64,
@@ -156,42 +137,25 @@ impl Record {
         value: u64,
     ) -> Wrote
         requires { Ranges (setup_of self.setup) }
-        ensures { (ms ns es os : List ℕ) → Passed (state self ms ns es os) → WordsIn (state self ms ns es os) value counter setting
-            → WriteAnswered (state self ms ns es os) size offset value result }
+        ensures { (ms ns es os : List ℕ) → Passed (state self ms ns es os) → WordsIn (state self ms ns es os) value mask counter setting
+            → outcome (ack_of result.ack) (wrote (setup_of self.setup) result.left ms ns es os value) ≡ step (state self ms ns es os) (write size offset value) }
     {
-        match write_verdict(self.setup.registers_end(), size, offset, value) {
+        match write_verdict(size, offset, value) {
             Verdict::Failed(why) => Wrote {
                 ack: Ack::Refused(why),
                 left: WriteWords {
                     record: self,
+                    mask,
                     counter,
                     setting,
-                    effect: Effect {
-                        sets: false,
-                        reads: false,
-                        flushes: false,
-                    },
+                    flushes: false,
                 },
             },
             Verdict::Passed => Wrote {
                 ack: Ack::Done,
-                left: self.store(counter, setting, size, offset, value),
+                left: self.store(mask, counter, setting, size, offset, value),
             },
         }
-    }
-
-    // block_mask after CONFIG_LIMIT or READ_LIMIT on the words of the pair that a value written to alloc_ctl names.
-    fn limit(self, effect: Effect, masks: &mut [u64], v: u64) -> [u64; 16]
-        requires { Ranges (setup_of self.setup) × (T effect.sets → pair_of (setup_of self.setup) v * mask_words (setup_of self.setup) + mask_words (setup_of self.setup) ≤ length masks.old) }
-        ensures { limited (setup_of self.setup) self.alloc_ctl (number_in self.block_mask) effect masks.old v
-            ≡ allocation self.alloc_ctl (number_in result) masks.new }
-    {
-        let from = named_mask(self.setup, v);
-        let n = self.setup.mask_words() as usize;
-        let mask = self.block_mask;
-        let next = load_if(effect.reads, masks, from, n, mask);
-        store_if(effect.sets, masks, from, n, &mask);
-        next
     }
 
     pub fn write(
@@ -212,19 +176,23 @@ impl Record {
                 ack: Ack::Refused(why),
             },
             Verdict::Passed => {
+                let p = named_pair(self.setup, value);
                 let i = named_mcid(value);
-                let counter = word64(counters, i);
-                let setting = word16(events, i);
-                let wrote = self.write_words(counter, setting, size, offset, value);
+                let wrote = self.write_words(
+                    word64(masks, p),
+                    word64(counters, i),
+                    word16(events, i),
+                    size,
+                    offset,
+                    value,
+                );
                 let left = wrote.left;
                 let ack = wrote.ack;
-                let effect = left.effect;
-                let mut record = left.record;
-                let mask = record.limit(effect, masks, value);
-                record.block_mask = mask;
+                let record = left.record;
+                put64(masks, p, left.mask);
                 put64(counters, i, left.counter);
                 put16(events, i, left.setting);
-                flush_if(effect.flushes, owners, counters, events, named_rcid(value));
+                flush_if(left.flushes, owners, counters, events, named_rcid(value));
                 Acked { record, ack }
             }
         }

@@ -1,25 +1,25 @@
 // Resets.
-ghost use Rattle.std.specs.Prelude.{◌≡◌, ◌*◌, length};
-ghost use Rattle.numbers.specs.Numbers.{words_of_all};
+ghost use Rattle.std.specs.Prelude.{◌≡◌, length};
 ghost use Rattle.capacity_model.specs.View.{Ranges};
 ghost use Rattle.capacity_model.specs.Calls.{reset};
-ghost use Rattle.capacity_model.specs.Rules.{pairs, mask_words, reset_masks};
+ghost use Rattle.capacity_model.specs.Rules.{pairs, reset_masks};
 ghost use Rattle.capacity_model.specs.Model.{step};
 ghost use Rattle.capacity_masks.specs.View.{setup_of};
 ghost use Rattle.capacity.specs.View.{before, after, outcome, ack_of};
 
 use crate::{Acked, Record};
 use access::{Ack, Verdict};
-use capacity_masks::Setup;
-use mask_tables::fill_masks;
+use capacity_masks::{Setup, all_blocks};
 use tables::{fill16, fill32, fill64};
 
 // The masks of a reset: every block for each AT of RCID 0, and else none.
 fn reset_masks(setup: Setup, masks: &mut [u64])
-    requires { Ranges (setup_of setup) × (length masks.old ≡ pairs (setup_of setup) * mask_words (setup_of setup)) }
-    ensures { masks.new ≡ words_of_all (mask_words (setup_of setup)) (reset_masks (setup_of setup)) }
+    requires { Ranges (setup_of setup) × (length masks.old ≡ pairs (setup_of setup)) }
+    ensures { masks.new ≡ reset_masks (setup_of setup) }
 {
-    fill_masks(masks, setup.na as usize, setup.ncblks);
+    let na = setup.na as usize;
+    fill64(masks, 0);
+    fill64(&mut masks[..na], all_blocks(setup));
 }
 
 impl Record {
@@ -49,7 +49,7 @@ impl Record {
                         mon_ctl: 0,
                         mon_ctr_val: 0,
                         alloc_ctl: 0,
-                        block_mask: [0; 16],
+                        block_mask: 0,
                     },
                     ack: Ack::Done,
                 }

@@ -1,19 +1,14 @@
 -- A call on bytes: refused by checks 1 to 3, or answered by the model's step on the words that the bytes hold.
-use mathlib.Core.Path.{◌≡◌, refl, sym, ap, subst, subst⁻¹, ◌∙◌}
+use mathlib.Core.Path.{◌≡◌, refl, sym, ap, subst, ◌∙◌}
 use mathlib.Core.Bool.{Bool, true, false, not, cond}
 use mathlib.Core.List.{List, [], ◌∷◌}
-use Prim.Native.Nat.{ℕ, ◌+◌, ◌*◌, ◌^◌, ◌<◌}
-use native.Mathlib.Omega.{arith}
+use Prim.Native.Nat.{ℕ, ◌^◌, ◌<◌}
 use lib.Dec.{T, lit<}
-use lib.ListN.{length, get_or, drop, replicate}
-use lib.Seq.{get_or-drop, take_all}
-use Rattle.numbers.specs.Numbers as numbers
-use Rattle.numbers.proofs.Lists.{number_words}
+use lib.ListN.{get_or}
 use Rattle.words.specs.Words.{words_of, bytes_of_all, with_word, table_of, Holds}
 use Rattle.words.proofs.Held as words
-use Rattle.words.proofs.Held.{held_put}
-use Rattle.words.proofs.Table.{length_words}
-use Rattle.words.proofs.Parts.{table_held, table_below}
+use Rattle.words.proofs.Held.{put_held, held_put}
+use Rattle.words.proofs.Parts.{table_held}
 use Rattle.access.specs.Checks.{first}
 use Rattle.access.specs.declared.Ack.{Ack}
 use Rattle.access.specs.declared.Ack.TheVariants as ack
@@ -26,8 +21,9 @@ use Rattle.monitor.specs.Occupancy.{evicted}
 use Rattle.units.specs.Owners.{flushed_owners}
 use Rattle.units.specs.Counts.{flushed}
 use Rattle.capacity_masks.specs.View.{setup_of}
-use Rattle.capacity_model.specs.Rules.{Setup, pairs, mask_words, unit_count}
-use Rattle.capacity_model.specs.Calls.{Call, reset, read, write, fill, evict, count, Answer, refused, done, value, allowed}
+use Rattle.capacity_masks.specs.Words.{pair_of}
+use Rattle.capacity_model.specs.Rules.{Setup, pairs, unit_count}
+use Rattle.capacity_model.specs.Calls.{Call, reset, read, write, fill, evict, Answer, refused, done, value, allowed}
 use Rattle.capacity_model.specs.Claim.{is_reset}
 use Rattle.capacity_model.specs.View.{Ranges, Sized}
 use Rattle.capacity_model.specs.Model.{State, Outcome, with_units, well_formed, state_checks, step}
@@ -39,8 +35,10 @@ use Rattle.capacity.specs.View.{outcome, ack_of}
 use Rattle.capacity.specs.Checked.{wrote}
 use Rattle.capacity.proofs.Checks.{setup_passes, state_tested}
 use Rattle.capacity.proofs.Calls.{call_failed}
-use Rattle.capacity_bytes.specs.Bytes.{Lent, lent, record_by, state_of, lent_of, Reply, pointers, reply_to, setup_for, byte_refusal, step_bytes}
-use Rattle.capacity_bytes.specs.View.{number_in, values_in, words_in, state_in, HeldIn, LimitedIn}
+use Rattle.capacity_bytes.specs.Bytes.{Lent, lent, state_of, lent_of, Reply, pointers, reply_to, setup_for, byte_refusal, step_bytes}
+use Rattle.capacity_bytes.specs.View.{number_in, values_in, words_in, state_in, HeldIn, Checked}
+use Rattle.capacity_bytes.specs.declared.check.Check.{Check}
+use Rattle.capacity_bytes.specs.declared.check.Check.TheVariants as check
 use Rattle.capacity_bytes.proofs.Lengths.{in_range, long, words_sized}
 
 -- every call but a reset goes by the record's set-up
@@ -51,7 +49,6 @@ by_record l (read size offset) t = refl
 by_record l (write size offset v) t = refl
 by_record l (fill rcid mcid at unit) t = refl
 by_record l (evict unit) t = refl
-by_record l (count rcid at) t = refl
 
 -- ---- refused by checks 1 and 2
 
@@ -61,16 +58,6 @@ refused_12 l n e h c t =
 
 -- ---- the record that the bytes hold, after checks 1 and 2
 
--- the words of block_mask are those of its number
-mask_words_lem : (r : Record) (bytes : List ℕ) → Holds 8 bytes (words_in r) → length (words_in r) ≡ 25 → ((i : ℕ) → get_or bytes i 0 < 256)
-    → numbers.words_of 16 (numbers.number_in r.block_mask) ≡ r.block_mask
-mask_words_lem r bytes h long low =
-    let mask = r.block_mask in
-    let n : length mask ≡ 16 = omega arith in
-    let fits : (i : ℕ) → get_or mask i 0 < 2 ^ 64
-    = λ i. subst⁻¹ (λ (ws : List ℕ). get_or (drop 9 ws) i 0 < 2 ^ 64) h.words_are (subst⁻¹ (λ (x : ℕ). x < 2 ^ 64) (get_or-drop 9 (table_of 8 bytes) i 0) (table_below 8 bytes (lit< tt) low (9 + i))) in
-    number_words 16 mask (omega arith) fits ∙ take_all 16 mask (omega arith)
-
 -- a call that they do not refuse
 module _ (l : Lent) (r : Record) (same : state_in l r ≡ state_of l) (z : byte_refusal (state_of l).setup l ≡ 0) (c : Call) (t : T (not (is_reset c))) where
   taken : (o : Outcome) → o ≡ step (state_in l r) c → (p : Reply) → p ≡ reply_to l (pointers c) o.answer o.state → p ≡ step_bytes l c
@@ -78,11 +65,11 @@ module _ (l : Lent) (r : Record) (same : state_in l r ≡ state_of l) (z : byte_
       laws.step_taken step pointers reply_to (λ k d. byte_refusal (setup_for k d) k) state_of l c p (ap (λ (su : Setup). byte_refusal su l) (by_record l c t) ∙ z)
       (laws.answered step pointers reply_to l (state_of l) c o (e ∙ ap (λ (s : State). step s c) same) p q)
 
-module _ (l : Lent) (r : Record) (w : words_in r ≡ words_of 8 25 l.«record») (z : byte_refusal (state_of l).setup l ≡ 0) where
+module _ (l : Lent) (r : Record) (w : words_in r ≡ words_of 8 10 l.«record») (z : byte_refusal (state_of l).setup l ≡ 0) where
   abbrev su : Setup
   su = setup_of r.setup
 
-  pub state_held : state_in l r ≡ state_of l
+  state_held : state_in l r ≡ state_of l
   unfolding state_of
   state_held = rw (← w) refl
 
@@ -94,9 +81,6 @@ module _ (l : Lent) (r : Record) (w : words_in r ≡ words_of 8 25 l.«record»)
 
   pub held_sized : Sized su (table_of 8 l.masks) (table_of 8 l.counters) (table_of 2 l.events) (table_of 4 l.owners)
   held_sized = words_sized su l held_none
-
-  pub held_masks : length l.masks ≡ pairs su * mask_words su * 8
-  held_masks = (long su l held_none).masks_long
 
   -- check 3
   module _ (b : Bool) (j : b ≡ well_formed (state_in l r)) where
@@ -111,12 +95,9 @@ module _ (l : Lent) (r : Record) (w : words_in r ≡ words_of 8 25 l.«record»)
         → ((i : ℕ) → get_or l.events i 0 < 256) → ((i : ℕ) → get_or l.owners i 0 < 256) → HeldIn l r
     tested_passed e lr lm lc le lo =
         let g = long su l held_none in
-        let n : length (words_in r) ≡ 25 = ap length w ∙ length_words 8 25 l.«record» in
-        let whole = words.held 8 (lit< tt) l.«record» (replicate 25 0) (words_in r) (sym g.record_long) lr w in
         record {
-          record_held = whole;
-          mask_held = mask_words_lem r l.«record» whole n lr;
-          masks_held = table_held 8 (pairs su * mask_words su) l.masks (lit< tt) g.masks_long lm;
+          record_held = words.held 8 (lit< tt) l.«record» (words_in r) (words_in r) (sym g.record_long) lr w;
+          masks_held = table_held 8 (pairs su) l.masks (lit< tt) g.masks_long lm;
           counters_held = table_held 8 su.nm l.counters (lit< tt) g.counters_long lc;
           events_held = table_held 2 su.nm l.events (lit< tt) g.events_long le;
           owners_held = table_held 4 (unit_count su) l.owners (lit< tt) g.owners_long lo;
@@ -130,7 +111,7 @@ module _ (l : Lent) (r : Record) (w : words_in r ≡ words_of 8 25 l.«record»)
 module _ {l : Lent} {r : Record} (h : HeldIn l r) where
   same_bytes : lent_of (state_in l r) ≡ l
   unfolding lent_of
-  same_bytes = rw (h.mask_held, ← h.record_held.bytes_are, ← h.masks_held.bytes_are, ← h.counters_held.bytes_are, ← h.events_held.bytes_are, ← h.owners_held.bytes_are) refl
+  same_bytes = rw (← h.record_held.bytes_are, ← h.masks_held.bytes_are, ← h.counters_held.bytes_are, ← h.events_held.bytes_are, ← h.owners_held.bytes_are) refl
 
   module _ (c : Call) (t : T (not (is_reset c))) where
     refused_keeps : (n : ℕ) (s : State) → outcome (refused n) s ≡ step (state_in l r) c → s ≡ state_in l r
@@ -156,24 +137,30 @@ module _ {l : Lent} {r : Record} (h : HeldIn l r) where
   pub unit_bytes : (owners counters N O : List ℕ) → N ≡ bytes_of_all 8 counters → O ≡ bytes_of_all 4 owners
       → lent l.«record» l.masks N l.events O ≡ lent_of (with_units (state_in l r) owners counters)
   unfolding lent_of
-  unit_bytes owners counters N O q p = rw (q, p, h.mask_held, ← h.record_held.bytes_are, ← h.masks_held.bytes_are, ← h.events_held.bytes_are) refl
+  unit_bytes owners counters N O q p = rw (q, p, ← h.record_held.bytes_are, ← h.masks_held.bytes_are, ← h.events_held.bytes_are) refl
 
-  -- a write stores the record, the words of its pair and of its MCID, and flushes the units of the RCID that its value names
-  pub write_bytes : (x : WriteWords) (mask : List ℕ) (v i rcid : ℕ) (R M N E O n₁ e₁ : List ℕ) → i ≡ mcid_of v → rcid ≡ rcid_of v → x.counter < 2 ^ 64 → x.setting < 2 ^ 16
-      → R ≡ bytes_of_all 8 (record_by (setup_of x.«record».setup) x.«record».mon_ctl x.«record».mon_ctr_val x.«record».alloc_ctl (numbers.words_of 16 (numbers.number_in mask)))
-      → ((ws : List ℕ) → Holds 8 l.masks ws → LimitedIn x.«record» x.effect ws M v mask) → n₁ ≡ with_word 8 l.counters i x.counter → e₁ ≡ with_word 2 l.events i x.setting
+  -- a write stores the record and the words that its value names, and flushes the units of the RCID that it names
+  pub write_bytes : (su : Setup) (x : WriteWords) (v p i rcid : ℕ) (R M N E O n₁ e₁ : List ℕ) → p ≡ pair_of su v → i ≡ mcid_of v → rcid ≡ rcid_of v → x.counter < 2 ^ 64 → x.setting < 2 ^ 16
+      → R ≡ bytes_of_all 8 (words_in x.«record») → M ≡ with_word 8 l.masks p x.mask → n₁ ≡ with_word 8 l.counters i x.counter → e₁ ≡ with_word 2 l.events i x.setting
       → ((os ns es : List ℕ) → Holds 4 l.owners os → Holds 8 n₁ ns → Holds 2 e₁ es
-      → (O ≡ bytes_of_all 4 (cond x.effect.flushes (flushed_owners rcid os) os)) × (N ≡ bytes_of_all 8 (cond x.effect.flushes (flushed 0 es evicted rcid os ns) ns)))
-      → E ≡ e₁ → lent R M N E O ≡ lent_of (wrote (state_in l r) x v)
+      → (O ≡ bytes_of_all 4 (cond x.flushes (flushed_owners rcid os) os)) × (N ≡ bytes_of_all 8 (cond x.flushes (flushed 0 es evicted rcid os ns) ns)))
+      → E ≡ e₁ → lent R M N E O ≡ lent_of (wrote su x (table_of 8 l.masks) (table_of 8 l.counters) (table_of 2 l.events) (table_of 4 l.owners) v)
   unfolding lent_of
-  write_bytes x mask v i rcid R M N E O n₁ e₁ b d fc fs q₁ q₂ q₃ q₄ f q₅ =
+  write_bytes su x v p i rcid R M N E O n₁ e₁ a b d fc fs q₁ q₂ q₃ q₄ f q₅ =
       let k = held_put 8 (lit< tt) (mcid_of v) x.counter l.counters (table_of 8 l.counters) n₁ h.counters_held fc (rw (← b) q₃) in
       let e = held_put 2 (lit< tt) (mcid_of v) x.setting l.events (table_of 2 l.events) e₁ h.events_held fs (rw (← b) q₄) in
       let g = f _ _ _ h.owners_held k e in
-      let m = q₂ (table_of 8 l.masks) h.masks_held in
-      rw (q₁, m.bytes_are, m.mask_is, q₅, g.0, g.1, e.bytes_are, d) refl
+      rw (q₁, q₂, q₅, g.0, g.1, e.bytes_are, a, d, put_held 8 (lit< tt) (pair_of su v) x.mask l.masks (table_of 8 l.masks) h.masks_held) refl
 
 -- a call without a pointer
 pub ack_none : (a : Ack) → [] ≡ values_in 0 (ack_of a)
 ack_none ack.Done = refl
 ack_none (ack.Refused why) = refl
+
+-- ---- what the checks found
+
+pub passed_of : (l : Lent) (k : Check) (r : Record) → Checked l k → k ≡ check.Passed r → HeldIn l r
+passed_of l k r x e = subst (Checked l) e x
+
+pub failed_of : (l : Lent) (k : Check) (n : ℕ) → Checked l k → k ≡ check.Failed n → (c : Call) → T (not (is_reset c)) → refusal n (pointers c) l ≡ step_bytes l c
+failed_of l k n x e = subst (Checked l) e x

@@ -1,12 +1,11 @@
 -- The capacity controller as C sees it: numbers, and a record and tables of little-endian bytes.
-use Rattle.std.specs.Prelude.{Bool, cond, ◌&&◌, List, [], ◌∷◌, ℕ, ◌*◌, eqb, length, get_or, drop}
-use Rattle.numbers.specs.Numbers as numbers
+use Rattle.std.specs.Prelude.{Bool, cond, ◌&&◌, List, [], ◌∷◌, ℕ, ◌*◌, eqb, length, get_or}
 use Rattle.words.specs.Words.{words_of, bytes_of_all, table_of}
 use Rattle.access.specs.Checks.{first}
 use Rattle.replies.specs.Replies as shared
 use Rattle.replies.specs.Replies.{reply, refusal, byte_checks}
-use Rattle.capacity_model.specs.Rules.{Setup, setup_ok, pairs, mask_words, unit_count}
-use Rattle.capacity_model.specs.Calls.{Call, reset, read, write, fill, evict, count, Answer, refused, done, value, allowed}
+use Rattle.capacity_model.specs.Rules.{Setup, setup_ok, pairs, unit_count}
+use Rattle.capacity_model.specs.Calls.{Call, reset, read, write, fill, evict, Answer, refused, done, value, allowed}
 use Rattle.capacity_model.specs.Model.{State, step}
 
 -- ---- what C lends
@@ -22,33 +21,30 @@ pub record Lent : Type 0 where
 abbrev pub lent : List ℕ → List ℕ → List ℕ → List ℕ → List ℕ → Lent
 lent r masks counters events owners = record { «record» = r; masks = masks; counters = counters; events = events; owners = owners }
 
--- the record is 25 words of 8 bytes
+-- the record is 10 words of 8 bytes
 abbrev pub record_length : ℕ
-record_length = 200
+record_length = 80
 
 abbrev pub setup_by : ℕ → ℕ → ℕ → ℕ → ℕ → ℕ → Setup
 setup_by ncblks nr na nm w u = record { ncblks = ncblks; nr = nr; na = na; nm = nm; w = w; units = u }
 
--- the record's words: the set-up, mon_ctl, mon_ctr_val, alloc_ctl and the 16 words of block_mask
-abbrev pub record_by : Setup → ℕ → ℕ → ℕ → List ℕ → List ℕ
-record_by su mon_ctl mon_ctr_val alloc_ctl mask =
-    su.ncblks ∷ su.nr ∷ su.na ∷ su.nm ∷ su.w ∷ su.units ∷ mon_ctl ∷ mon_ctr_val ∷ alloc_ctl ∷ mask
-
+-- the record's words: the set-up, mon_ctl, mon_ctr_val, alloc_ctl and block_mask
 abbrev pub record_of : State → List ℕ
-record_of s = record_by s.setup s.monitor.ctl s.monitor.value s.alloc.ctl (numbers.words_of 16 s.alloc.mask)
+record_of s =
+    s.setup.ncblks ∷ s.setup.nr ∷ s.setup.na ∷ s.setup.nm ∷ s.setup.w ∷ s.setup.units ∷ s.monitor.ctl ∷ s.monitor.value ∷ s.alloc.ctl ∷ s.alloc.mask ∷ []
 
 -- the state by the record's words and the tables
 abbrev pub state_by : List ℕ → List ℕ → List ℕ → List ℕ → List ℕ → State
 state_by r masks counters events owners = record {
   setup = setup_by (get_or r 0 0) (get_or r 1 0) (get_or r 2 0) (get_or r 3 0) (get_or r 4 0) (get_or r 5 0);
-  alloc = record { ctl = get_or r 8 0; mask = numbers.number_in (drop 9 r); masks = masks };
+  alloc = record { ctl = get_or r 8 0; mask = get_or r 9 0; masks = masks };
   monitor = record { ctl = get_or r 6 0; value = get_or r 7 0; counters = counters; events = events };
   owners = owners;
 }
 
 -- the state that lent bytes hold
 unfoldable pub state_of : Lent → State
-state_of l = state_by (words_of 8 25 l.«record») (table_of 8 l.masks) (table_of 8 l.counters) (table_of 2 l.events) (table_of 4 l.owners)
+state_of l = state_by (words_of 8 10 l.«record») (table_of 8 l.masks) (table_of 8 l.counters) (table_of 2 l.events) (table_of 4 l.owners)
 
 -- the bytes of a state
 unfoldable pub lent_of : State → Lent
@@ -60,14 +56,13 @@ lent_of s =
 abbrev pub Reply : Type 0
 Reply = shared.Reply Lent
 
--- a read, a fill and a count have a pointer
+-- a read and a fill have a pointer
 abbrev pub pointers : Call → ℕ
 pointers (reset su) = 0
 pointers (read size offset) = 1
 pointers (write size offset v) = 0
 pointers (fill rcid mcid at unit) = 1
 pointers (evict unit) = 0
-pointers (count rcid at) = 1
 
 -- a refusal gives its number and leaves the bytes; 0 for none, with the bytes of the state left; an allowance is 1 or 0
 abbrev pub reply_to : Lent → ℕ → Answer → State → Reply
@@ -83,12 +78,11 @@ setup_for l (read size offset) = (state_of l).setup
 setup_for l (write size offset v) = (state_of l).setup
 setup_for l (fill rcid mcid at unit) = (state_of l).setup
 setup_for l (evict unit) = (state_of l).setup
-setup_for l (count rcid at) = (state_of l).setup
 
 -- each table has exactly the bytes of its words
 unfoldable pub bytes_fit : Setup → Lent → Bool
 bytes_fit su l =
-    eqb (length l.masks) (pairs su * mask_words su * 8) && eqb (length l.counters) (su.nm * 8) && eqb (length l.events) (su.nm * 2)
+    eqb (length l.masks) (pairs su * 8) && eqb (length l.counters) (su.nm * 8) && eqb (length l.events) (su.nm * 2)
     && eqb (length l.owners) (unit_count su * 4)
 
 -- checks 1 and 2 on bytes

@@ -2,20 +2,18 @@
 use Rattle.std.specs.Prelude.{◌≡◌, not, cond, List, [], ◌∷◌, ℕ, ◌*◌, T, length, replicate}
 use Rattle.std.specs.Borrow.{Bor}
 use denote.Triple.Both.{Both}
-use Rattle.words.specs.Words.{words_of, bytes_of_all, table_of, Holds}
+use Rattle.words.specs.Words.{table_of, Holds}
 use Rattle.replies.specs.Replies.{refusal}
-use Rattle.capacity_model.specs.Rules.{Setup, pairs, mask_words, unit_count}
+use Rattle.capacity_model.specs.Rules.{Setup, pairs, unit_count}
 use Rattle.capacity_model.specs.Calls.{Call, Answer, refused, done, value, allowed}
 use Rattle.capacity_model.specs.Claim.{is_reset}
-use Rattle.capacity_model.specs.Model.{State, Allocation}
+use Rattle.capacity_model.specs.Model.{State}
 use Rattle.capacity.specs.declared.Record.{Record}
 use Rattle.capacity.specs.View.{state}
 use Rattle.capacity.specs.Checked.{Passed}
-use Rattle.allocation.specs.declared.Effect.{Effect}
-use Rattle.capacity_masks.specs.View.{setup_of}
-use Rattle.capacity_masks.specs.Words.{limited}
-use Rattle.numbers.specs.Numbers as numbers
-use Rattle.capacity_bytes.specs.Bytes.{Lent, lent, record_length, record_by, state_of, byte_refusal, pointers, step_bytes}
+use Rattle.capacity_bytes.specs.Bytes.{Lent, lent, record_length, record_of, state_of, byte_refusal, pointers, step_bytes}
+use Rattle.capacity_bytes.specs.declared.check.Check.{Check}
+use Rattle.capacity_bytes.specs.declared.check.Check.TheVariants as check
 
 -- the lent bytes when a call is made and when it returns, over the places that a contract names
 abbrev pub Slice : Type 0
@@ -42,7 +40,7 @@ values_in p (allowed b) = cond b 1 0 ∷ []
 
 -- the words of the code's record
 abbrev pub words_in : Record → List ℕ
-words_in r = record_by (setup_of r.setup) r.mon_ctl r.mon_ctr_val r.alloc_ctl r.block_mask
+words_in r = record_of (state r [] [] [] [])
 
 -- the code's record with the words that lent bytes hold
 abbrev pub state_in : Lent → Record → State
@@ -51,7 +49,7 @@ state_in l r = state r (table_of 8 l.masks) (table_of 8 l.counters) (table_of 2 
 -- record and tables have their lengths
 pub record Long (su : Setup) (l : Lent) : Type 0 where
   pub record_long : length l.«record» ≡ record_length
-  pub masks_long : length l.masks ≡ pairs su * mask_words su * 8
+  pub masks_long : length l.masks ≡ pairs su * 8
   pub counters_long : length l.counters ≡ su.nm * 8
   pub events_long : length l.events ≡ su.nm * 2
   pub owners_long : length l.owners ≡ unit_count su * 4
@@ -59,7 +57,6 @@ pub record Long (su : Setup) (l : Lent) : Type 0 where
 -- r is the record that the bytes hold, and checks 1 to 3 pass
 pub record HeldIn (l : Lent) (r : Record) : Type 0 where
   pub record_held : Holds 8 l.«record» (words_in r)
-  pub mask_held : numbers.words_of 16 (numbers.number_in r.block_mask) ≡ r.block_mask
   pub masks_held : Holds 8 l.masks (table_of 8 l.masks)
   pub counters_held : Holds 8 l.counters (table_of 8 l.counters)
   pub events_held : Holds 2 l.events (table_of 2 l.events)
@@ -68,17 +65,7 @@ pub record HeldIn (l : Lent) (r : Record) : Type 0 where
   pub none : byte_refusal (state_of l).setup l ≡ 0
   pub passed : Passed (state_in l r)
 
--- alloc_ctl, block_mask and the words of the masks after it
-abbrev pub limited_in : Record → Effect → List ℕ → ℕ → Allocation
-limited_in held effect words v = limited (setup_of held.setup) held.alloc_ctl (numbers.number_in held.block_mask) effect words v
-
--- r is block_mask, and left has the bytes of the masks, after CONFIG_LIMIT or READ_LIMIT
-pub record LimitedIn (held : Record) (effect : Effect) (words left : List ℕ) (v : ℕ) (r : List ℕ) : Type 0 where
-  pub mask_is : numbers.number_in r ≡ (limited_in held effect words v).mask
-  pub bytes_are : left ≡ bytes_of_all 8 (limited_in held effect words v).masks
-
--- what checks 1 to 3 find: the number of a refusal of every call but a reset, or 0 where they pass
-pub record Checked (l : Lent) (n : ℕ) : Type 0 where
-  pub long : n ≡ 0 → length l.«record» ≡ record_length
-  pub passed : n ≡ 0 → (r : Record) → words_in r ≡ words_of 8 25 l.«record» → HeldIn l r
-  pub failed : (n ≡ 0 → ⊥) → (c : Call) → T (not (is_reset c)) → refusal n (pointers c) l ≡ step_bytes l c
+-- what checks 1 to 3 find: the record, or the refusal of every call but a reset
+abbrev pub Checked : Lent → Check → Type 0
+Checked l (check.Passed r) = HeldIn l r
+Checked l (check.Failed n) = (c : Call) → T (not (is_reset c)) → refusal n (pointers c) l ≡ step_bytes l c

@@ -1,20 +1,18 @@
-// Cache events, flushes, and how many blocks a pair may fill.
+// Cache events and flushes.
 ghost use Rattle.std.specs.Prelude.{◌≡◌, cond, List, [], ◌∷◌, ℕ};
 ghost use Rattle.words.specs.Words.{bytes_of_all, Holds};
 ghost use Rattle.replies.specs.Replies.{reply};
 ghost use Rattle.monitor.specs.Occupancy.{evicted};
 ghost use Rattle.units.specs.Owners.{flushed_owners};
 ghost use Rattle.units.specs.Counts.{flushed};
-ghost use Rattle.capacity_model.specs.Calls.{fill, evict, count};
+ghost use Rattle.capacity_model.specs.Calls.{fill, evict};
 ghost use Rattle.capacity_bytes.specs.Bytes.{step_bytes};
 ghost use Rattle.capacity_bytes.specs.View.{before, after};
 
-use crate::answer::{Answered, reading_numbers};
-use crate::check::checked;
-use crate::record::load_record;
+use crate::answer::Answered;
+use crate::check::{Check, checked};
 use access::{Ack, known_at, refusal_number};
 use capacity::Filling;
-use mask_bytes::load;
 use words::word64;
 
 // FLUSH_RCID where `flushes` holds.
@@ -40,34 +38,34 @@ pub fn fill(
 ) -> Answered
     ensures { reply result.number (result.value ∷ []) (after «record» masks counters events owners) ≡ step_bytes (before «record» masks counters events owners) (fill rcid mcid at unit) }
 {
-    let why = checked(record, masks, counters, events, owners);
-    if why != 0 {
-        return Answered {
+    match checked(record, masks, counters, events, owners) {
+        Check::Failed(why) => Answered {
             number: why,
             value: 0,
-        };
-    }
-    let held = load_record(record);
-    let setup = held.setup;
-    let word = word64(masks, setup.word_of(rcid, at, unit));
-    match held.filling(word, rcid, mcid, unit) {
-        Filling::Allowed => {
-            let known = known_at(setup.na, at);
-            let i = unit as usize;
-            unit_bytes::fill(setup.w, owners, counters, events, rcid, mcid, known, i);
-            Answered {
-                number: 0,
-                value: 1,
+        },
+        Check::Passed(held) => {
+            let setup = held.setup;
+            let mask = word64(masks, setup.pair_at(rcid, at));
+            match held.filling(mask, rcid, mcid, unit) {
+                Filling::Allowed => {
+                    let known = known_at(setup.na, at);
+                    let i = unit as usize;
+                    unit_bytes::fill(setup.w, owners, counters, events, rcid, mcid, known, i);
+                    Answered {
+                        number: 0,
+                        value: 1,
+                    }
+                }
+                Filling::NotAllowed => Answered {
+                    number: 0,
+                    value: 0,
+                },
+                Filling::Refused(why) => Answered {
+                    number: refusal_number(why),
+                    value: 0,
+                },
             }
         }
-        Filling::NotAllowed => Answered {
-            number: 0,
-            value: 0,
-        },
-        Filling::Refused(why) => Answered {
-            number: refusal_number(why),
-            value: 0,
-        },
     }
 }
 
@@ -81,39 +79,14 @@ pub fn evict(
 ) -> u64
     ensures { reply result [] (after «record» masks counters events owners) ≡ step_bytes (before «record» masks counters events owners) (evict unit) }
 {
-    let why = checked(record, masks, counters, events, owners);
-    if why != 0 {
-        return why;
+    match checked(record, masks, counters, events, owners) {
+        Check::Failed(why) => why,
+        Check::Passed(held) => match held.evicting(unit) {
+            Ack::Done => {
+                unit_bytes::evict(owners, counters, events, unit as usize);
+                0
+            }
+            Ack::Refused(why) => refusal_number(why),
+        },
     }
-    match load_record(record).evicting(unit) {
-        Ack::Done => {
-            unit_bytes::evict(owners, counters, events, unit as usize);
-            0
-        }
-        Ack::Refused(why) => refusal_number(why),
-    }
-}
-
-pub fn count(
-    record: &[u8],
-    masks: &[u8],
-    counters: &[u8],
-    events: &[u8],
-    owners: &[u8],
-    rcid: u64,
-    at: u64,
-) -> Answered
-    ensures { reply result.number (result.value ∷ []) (after «record» masks counters events owners) ≡ step_bytes (before «record» masks counters events owners) (count rcid at) }
-{
-    let why = checked(record, masks, counters, events, owners);
-    if why != 0 {
-        return Answered {
-            number: why,
-            value: 0,
-        };
-    }
-    let held = load_record(record);
-    let setup = held.setup;
-    let mask = load(masks, setup.mask_at(rcid, at), setup.mask_words() as usize);
-    reading_numbers(held.counting(mask, rcid))
 }

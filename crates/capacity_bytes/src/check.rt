@@ -1,7 +1,6 @@
 // Checks 1 to 3.
-ghost use Rattle.std.specs.Prelude.{◌≡◌, ◌*◌, length};
+ghost use Rattle.std.specs.Prelude.{◌≡◌};
 ghost use Rattle.words.specs.Words.{table_of};
-ghost use Rattle.capacity_model.specs.Rules.{pairs, mask_words};
 ghost use Rattle.capacity_model.specs.View.{Ranges, Sized};
 ghost use Rattle.capacity_model.specs.Model.{well_formed};
 ghost use Rattle.capacity_masks.specs.View.{setup_of};
@@ -13,38 +12,42 @@ use crate::record::load_record;
 use capacity::Record;
 use capacity_masks::union_ok;
 use codes::Resource;
-use mask_bytes::tops;
 use monitor_bytes::{capacity_counters_ok, events_ok};
 use unit_bytes::owners_ok;
+use words::union64;
 
 // Check 3.
 fn well_formed(held: Record, masks: &[u8], counters: &[u8], events: &[u8], owners: &[u8]) -> bool
-    requires { (Ranges (setup_of held.setup) × Sized (setup_of held.setup) (table_of 8 masks.now) (table_of 8 counters.now) (table_of 2 events.now) (table_of 4 owners.now))
-        × (length masks.now ≡ pairs (setup_of held.setup) * mask_words (setup_of held.setup) * 8) }
+    requires { Ranges (setup_of held.setup) × Sized (setup_of held.setup) (table_of 8 masks.now) (table_of 8 counters.now) (table_of 2 events.now) (table_of 4 owners.now) }
     ensures { result ≡ well_formed (state held (table_of 8 masks.now) (table_of 8 counters.now) (table_of 2 events.now) (table_of 4 owners.now)) }
 {
     let setup = held.setup;
-    let n = setup.mask_words() as usize;
     held.judge(
-        union_ok(setup, tops(masks, n)),
+        union_ok(setup, union64(masks)),
         capacity_counters_ok(counters, setup.w as u32),
         events_ok(events, setup.na as u16, Resource::Capacity),
         owners_ok(owners, setup.nr as u32, setup.nm as u32, setup.na as u32),
     )
 }
 
-// Checks 1 to 3: the refusal's number, 0 for none.
-pub fn checked(record: &[u8], masks: &[u8], counters: &[u8], events: &[u8], owners: &[u8]) -> u64
+// The record, or the refusal's number.
+#[derive(Drop)]
+pub enum Check {
+    Passed(Record),
+    Failed(u64),
+}
+
+pub fn checked(record: &[u8], masks: &[u8], counters: &[u8], events: &[u8], owners: &[u8]) -> Check
     ensures { Checked (before «record» masks counters events owners) result }
 {
     let why = record_refusal(record, masks, counters, events, owners);
     if why != 0 {
-        return why;
+        return Check::Failed(why);
     }
     let held = load_record(record);
     if well_formed(held, masks, counters, events, owners) {
-        0
+        Check::Passed(held)
     } else {
-        3
+        Check::Failed(3)
     }
 }

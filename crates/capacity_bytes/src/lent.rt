@@ -19,14 +19,14 @@ pub fn byte_refusal(
 ) -> u64
     ensures { result ≡ byte_refusal (setup_of setup) (before «record» masks counters events owners) }
 {
-    if record.len() != 200 {
+    if record.len() != 80 {
         return 1;
     }
     if setup.in_range() {
-        let words = (setup.pairs() * setup.mask_words()) as usize;
+        let pairs = setup.pairs() as usize;
         let nm = setup.nm as usize;
         let units = setup.unit_count() as usize;
-        let fit = (masks.len() == words * 8)
+        let fit = (masks.len() == pairs * 8)
             & (counters.len() == nm * 8)
             & (events.len() == nm * 2)
             & (owners.len() == units * 4);
@@ -46,7 +46,7 @@ pub fn record_refusal(
 ) -> u64
     ensures { result ≡ byte_refusal (state_of (before «record» masks counters events owners)).setup (before «record» masks counters events owners) }
 {
-    if record.len() == 200 {
+    if record.len() == 80 {
         let setup = load_record(record).setup;
         byte_refusal(setup, record, masks, counters, events, owners)
     } else {

@@ -8,5 +8,5 @@ mod registers;
 pub mod reset;
 
 pub use answer::Answered;
-pub use cache::{count, evict, fill};
+pub use cache::{evict, fill};
 pub use registers::{read, write};

@@ -1,11 +1,10 @@
 // Resets.
 ghost use Rattle.std.specs.Prelude.{◌≡◌, [], ◌*◌, length};
 ghost use Rattle.words.specs.Words.{bytes_of_all};
-ghost use Rattle.numbers.specs.Numbers.{words_of_all};
 ghost use Rattle.replies.specs.Replies.{reply};
 ghost use Rattle.capacity_model.specs.Calls.{reset};
 ghost use Rattle.capacity_model.specs.View.{Ranges};
-ghost use Rattle.capacity_model.specs.Rules.{pairs, mask_words, reset_masks};
+ghost use Rattle.capacity_model.specs.Rules.{pairs, reset_masks};
 ghost use Rattle.capacity_masks.specs.View.{setup_of};
 ghost use Rattle.capacity_bytes.specs.Bytes.{step_bytes};
 ghost use Rattle.capacity_bytes.specs.View.{before, after};
@@ -13,16 +12,19 @@ ghost use Rattle.capacity_bytes.specs.View.{before, after};
 use crate::lent::byte_refusal;
 use crate::record::store_record;
 use capacity::Record;
-use capacity_masks::Setup;
-use mask_bytes::fill_masks;
-use words::clear8;
+use capacity_masks::{Setup, all_blocks};
+use words::{clear8, encode64};
 
 // The masks of a reset: every block for each AT of RCID 0, and else none.
 fn reset_masks(setup: Setup, masks: &mut [u8])
-    requires { Ranges (setup_of setup) × (length masks.old ≡ pairs (setup_of setup) * mask_words (setup_of setup) * 8) }
-    ensures { masks.new ≡ bytes_of_all 8 (words_of_all (mask_words (setup_of setup)) (reset_masks (setup_of setup))) }
+    requires { Ranges (setup_of setup) × (length masks.old ≡ pairs (setup_of setup) * 8) }
+    ensures { masks.new ≡ bytes_of_all 8 (reset_masks (setup_of setup)) }
 {
-    fill_masks(masks, setup.na as usize, setup.ncblks);
+    let na = setup.na as usize;
+    let end = na * 8;
+    let row = [all_blocks(setup); 8];
+    clear8(masks);
+    encode64(&row[..na], &mut masks[..end]);
 }
 
 pub fn reset(
@@ -44,7 +46,7 @@ pub fn reset(
         mon_ctl: 0,
         mon_ctr_val: 0,
         alloc_ctl: 0,
-        block_mask: [0; 16],
+        block_mask: 0,
     };
     store_record(fresh, record);
     reset_masks(setup, masks);

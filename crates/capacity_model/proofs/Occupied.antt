@@ -36,7 +36,7 @@ use Rattle.runs.proofs.Laws.{kept_untouched, keeps_step}
 use Rattle.runs.proofs.Checks.{passed_own}
 use Rattle.runs.proofs.Registers as shared
 use Rattle.capacity_model.specs.Rules.{unit_count, alloc_succeeds, owners_after}
-use Rattle.capacity_model.specs.Calls.{Call, kind_of, reset, read, write, fill, evict, count}
+use Rattle.capacity_model.specs.Calls.{Call, kind_of, reset, read, write, fill, evict}
 use Rattle.capacity_model.specs.Model.{State, counters_after, alloc_written, write_at, unit_filled, fill_allowed, fill_with, unit_evicted, perform, argument_checks, refusal}
 use Rattle.capacity_model.specs.Model as model
 use Rattle.capacity_model.specs.Ledger.{Ledger, accepted}
@@ -162,7 +162,6 @@ module _ (mcid : ℕ) {s : State} (g : Good s) (k : Track mcid s) where
   call_tracked (fill rcid m at unit) e t =
       fill_tracked rcid m at unit (fill_named s.setup rcid m unit (passed_own checking s (fill rcid m at unit) tt e)) (fill_allowed s rcid at unit)
   call_tracked (evict unit) e t = evict_tracked unit (unit_named s.setup unit (passed_own checking s (evict unit) tt e))
-  call_tracked (count rcid at) e t = k
 
 -- ---- lists of calls
 

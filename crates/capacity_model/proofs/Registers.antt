@@ -3,7 +3,6 @@ use mathlib.Core.Path.{◌≡◌, refl, sym, ap, subst⁻¹}
 use mathlib.Core.Bool.{Bool, false, cond, ◌&&◌}
 use mathlib.Core.List.{List, [], ◌∷◌}
 use Prim.Native.Nat.{ℕ}
-use Rattle.numbers.specs.Numbers.{word_of}
 use Rattle.access.specs.Access as access
 use Rattle.access.specs.Checks.{is_reset, on_write}
 use Rattle.access.specs.Pairs.{Setting}
@@ -19,14 +18,13 @@ use Rattle.runs.proofs.Settings.{storing, anew, none, sets_if, Settings}
 use Rattle.runs.proofs.Registers.{Parts, Registered, Agrees, Invariants, status_in, mon_status_in}
 use Rattle.capacity_model.specs.Rules.{pairs, bad_mask, alloc_succeeds, limit_of}
 use Rattle.capacity_model.specs.Calls.{Call, kind_of}
-use Rattle.capacity_model.specs.Model.{State, Allocation, masks_of, registers, register, read_at, after_reset, write_alloc, alloc_written, write_mask, write_at, perform}
+use Rattle.capacity_model.specs.Model.{State, Allocation, registers, register, read_at, after_reset, write_alloc, alloc_written, write_mask, write_at, perform}
 use Rattle.capacity_model.specs.Rules.{Setup}
 use Rattle.capacity_model.specs.Ledger.{Ledger, accepted, settings_by, Count, tally}
 use Rattle.capacity_model.specs.Claim.{controller, book}
 use Rattle.capacity_model.proofs.Setup.{ranges}
 use Rattle.capacity_model.proofs.Steps.{accepting, call_by, write_by}
-use Rattle.capacity_model.proofs.Words.{masks_are}
-use Rattle.capacity_model.proofs.Invariant.{Good, ledger_by, Inv, keeps}
+use Rattle.capacity_model.proofs.Invariant.{ledger_by, Inv, keeps}
 use Rattle.capacity_model.proofs.Counters.{Counts, counts_first, counts_next}
 
 abbrev pub parts : Parts State Setup
@@ -36,9 +34,7 @@ parts = record {
   na = λ su. su.na;
   nm = λ su. su.nm;
   resource = Capacity;
-  table = λ s. masks_of s.setup s.alloc.masks;
-  operand = λ s. s.alloc.mask;
-  word_in = word_of;
+  table = λ s. s.alloc.masks;
   bad = λ s v. bad_mask s.alloc.mask;
   registers = registers;
 }
@@ -71,7 +67,6 @@ registered = record {
   alloc = alloc_ctl_lem;
   mon = mon_ctl_lem;
   operand = λ s size v. refl;
-  words = λ s. refl;
 }
 
 -- ---- with the ledger
@@ -79,34 +74,34 @@ registered = record {
 abbrev Sets : State → State → List (Setting ℕ) → Bool → Type 0
 Sets = shared.Sets parts.setup (storing parts.nr parts.na) parts.table
 
-sets_call : (s : State) → Good s → (c : Call) → Sets s (perform s c).state (settings_by (ledger_by s) c) (is_reset (kind_of c))
+sets_call : (s : State) (c : Call) → Sets s (perform s c).state (settings_by (ledger_by s) c) (is_reset (kind_of c))
 unfolding settings_by alloc_written write_alloc write_mask table_after
-sets_call s g =
+sets_call s =
     let su = s.setup in
     let mask = s.alloc.mask in
     let made : ℕ → Bool → List (Setting ℕ) = λ v x. cond (x && alloc_succeeds su mask ConfigLimit v) (limit_of su mask v ∷ []) [] in
     call_by s (λ k s'. Sets s s' (on_write k (λ size offset v. made v (access.writes_low offset access.alloc_ctl)) []) (is_reset k)) (λ u. anew)
     (λ size offset v. write_by s (λ x y z t. Sets s t (made v x) false) size offset v
-    (sets_if _ _ _ s _ (limit_of su mask v) (alloc_succeeds su mask ConfigLimit v) refl (masks_are su mask s.alloc.masks v g.alloc.masks g.alloc.mask)
+    (sets_if _ _ _ s _ (limit_of su mask v) (alloc_succeeds su mask ConfigLimit v) refl refl
     (λ d. let ok = done_pair Capacity su.nr su.na (bad_mask mask) v ConfigLimit d tt in (ok.rcid_low, ok.at_low)))
     (none refl refl) (none refl refl) (none refl refl))
-    (λ s' k. none k.setup (rw (k.setup, k.alloc) refl))
+    (λ s' k. none k.setup (ap (λ (a : Allocation). a.masks) k.alloc))
 
 pub setting : Settings controller book Inv parts.setup (λ l. l.setup) (storing parts.nr parts.na) parts.table
 unfolding pairs
 setting = record {
   inv = keeps;
   same = λ s l i. sym (ap (λ (k : Ledger). k.setup) i.same);
-  right = λ s l i. i.good.alloc.masks.masks.long;
+  right = λ s l i. i.good.alloc.masks.long;
   sets = λ s l i c.
-      subst⁻¹ (λ (k : Ledger). Sets s (perform s c).state (settings_by k c) (is_reset (kind_of c))) i.same (sets_call s i.good c);
+      subst⁻¹ (λ (k : Ledger). Sets s (perform s c).state (settings_by k c) (is_reset (kind_of c))) i.same (sets_call s c);
 }
 
 agreeing : (s : State) (l : Ledger) → Inv s l → Agrees controller parts book s l
 unfolding settings_by
 agreeing s l i =
     subst⁻¹ (λ (k : Ledger). Agrees controller parts book s k) i.same
-    (record { na = refl; capabilities = refl; operand = refl; words = refl; status = λ v. refl; mon = λ v. refl; value = s.alloc.mask; sets = λ size v. refl })
+    (record { na = refl; capabilities = refl; operand = refl; status = λ v. refl; mon = λ v. refl; value = s.alloc.mask; sets = λ size v. refl })
 
 pub invariants : Invariants controller parts book tally Inv Counts
 invariants = record {

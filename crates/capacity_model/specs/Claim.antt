@@ -1,21 +1,19 @@
 -- What is claimed of the capacity controller after any list of calls that an accepted reset opens, by the ledger.
-use Rattle.access.specs.Logic.{◌≡◌, Bool, List, ℕ, ◌*◌, ◌<◌, if◌then◌else◌, ◌‼◌}
-use Rattle.tables.specs.Below.{sum_below}
-use Rattle.numbers.specs.Numbers.{word_of, words_of_all}
+use Rattle.access.specs.Logic.{◌≡◌, Bool, List, ℕ, ◌‼◌}
 use Rattle.runs.specs.Runs.{Machine, step_of, Always}
-use Rattle.runs.specs.Claims.{Book, whole, ReadsWords, AllCounted, Lasting}
+use Rattle.runs.specs.Claims.{Book, whole, Reads, AllCounted, Lasting}
 use Rattle.runs.specs.ByNumber as number
 use Rattle.access.specs.Access as access
 use Rattle.access.specs.Checks as checks
 use Rattle.fields.specs.Registers as reg
-use Rattle.access.specs.Pairs.{word_at, known_at}
+use Rattle.access.specs.Pairs.{word_at, with_setting, known_at}
 use Rattle.allocation.specs.Allocation.{alloc_word}
 use Rattle.monitor.specs.Monitor.{mon_status}
 use Rattle.codes.specs.declared.Resource.TheVariants.{Capacity}
-use Rattle.capacity_model.specs.Rules.{Setup, block_of, mask_words, has_block, blocks_in, bad_mask, limit_of, alloc_status}
-use Rattle.capacity_model.specs.Calls.{Call, kind_of, reset, read, write, fill, evict, count, Answer, refused, value, allowed}
-use Rattle.capacity_model.specs.Model.{State, masks_of, setup_checks, argument_checks, capabilities, with_limit, write_alloc, refusal, perform}
-use Rattle.capacity_model.specs.Ledger.{Ledger, accepted, says_allowed, started, note_call, settings_by, counter, tally}
+use Rattle.capacity_model.specs.Rules.{Setup, block_of, has_block, bad_mask, limit_of, alloc_status}
+use Rattle.capacity_model.specs.Calls.{Call, kind_of, reset, read, write, fill, evict, Answer, refused, value, allowed}
+use Rattle.capacity_model.specs.Model.{State, setup_checks, argument_checks, capabilities, write_alloc, refusal, perform}
+use Rattle.capacity_model.specs.Ledger.{Ledger, accepted, started, note_call, settings_by, counter, tally}
 
 -- ---- what the claims speak of
 abbrev pub controller : Machine State Setup Call Answer
@@ -43,32 +41,22 @@ book = record {
   na = λ l. l.setup.na;
   capabilities = λ l. capabilities l.setup;
   operand = λ l. l.mask;
-  word_in = word_of;
   checks_by = λ l c. argument_checks l.setup c;
   status_by = λ l v. alloc_status l.setup l.mask v;
   mon_status_by = λ l v. mon_status l.setup.na l.setup.nm Capacity v;
   settings_by = settings_by;
-  value_at = λ l s. word_at l.setup.na (masks_of l.setup s.alloc.masks);
-  number_of = λ mask. mask;
+  value_at = λ l s. word_at l.setup.na s.alloc.masks;
+  word_of = λ mask. mask;
 }
-
--- the mask of the pair that a cache event names, by the ledger
-abbrev pub mask_by : Ledger → ℕ → ℕ → ℕ
-mask_by l rcid at = word_at l.setup.na l.masks rcid (known_at l.setup.na at)
 
 -- ---- masks and owners; the state s and the ledger l
 pub record Claim (s : State) (l : Ledger) : Type 0 where
-  -- the table has the words of the ledger's masks, and block_mask, as it is read, those of the ledger's
-  pub masks : s.alloc.masks ≡ words_of_all (mask_words l.setup) l.masks
-  pub reads : ReadsWords controller s (word_of l.mask)
+  -- all masks are the ledger's, and so is block_mask as it is read
+  pub masks : s.alloc.masks ≡ l.masks
+  pub reads : Reads controller s access.operand l.mask
   -- a fill is allowed exactly where the pair's mask, by the ledger, has the unit's block
   pub fills : (rcid mcid at unit : ℕ) (b : Bool) → (step_of controller s (fill rcid mcid at unit)).answer ≡ allowed b
-      → b ≡ has_block (mask_by l rcid at) (block_of l.setup unit)
-  -- the count is that of the blocks which the pair's mask has, by the ledger
-  pub counts : (rcid at n : ℕ) → (step_of controller s (count rcid at)).answer ≡ value n → n ≡ blocks_in l.setup (mask_by l rcid at)
-  -- and of the blocks for which a fill would be allowed, with any MCID below NM
-  pub fillable : (rcid mcid at n : ℕ) → (step_of controller s (count rcid at)).answer ≡ value n → mcid < l.setup.nm
-      → n ≡ sum_below l.setup.ncblks (λ block. if says_allowed (step_of controller s (fill rcid mcid at (block * l.setup.units))).answer then 1 else 0)
+      → b ≡ has_block (word_at l.setup.na l.masks rcid (known_at l.setup.na at)) (block_of l.setup unit)
   -- the owner of every unit is the ledger's
   pub owners : s.owners ≡ l.owners
   -- an eviction of a free unit changes nothing
@@ -86,10 +74,10 @@ Counting = AllCounted controller book tally counter (λ s. s.monitor.counters)
 -- ---- what a write to alloc_ctl leaves, for every set-up, table, block_mask and value, is what the decisions by numbers leave
 abbrev pub AllocByNumber : Type 0
 AllocByNumber =
-    (su : Setup) (mask : ℕ) (words : List ℕ) (v : ℕ)
+    (su : Setup) (mask : ℕ) (masks : List ℕ) (v : ℕ)
     → (let bad = bad_mask mask in
-    write_alloc su mask words v ≡ record {
+    write_alloc su mask masks v ≡ record {
       ctl = alloc_word su.na v reg.idle (number.operation_status Capacity su.nr su.na bad v);
-      mask = number.operand_after Capacity su.nr su.na bad (masks_of su words) mask v;
-      masks = number.table_after Capacity su.nr su.na bad words (with_limit su words (limit_of su mask v)) v;
+      mask = number.operand_after Capacity su.nr su.na bad masks mask v;
+      masks = number.table_after Capacity su.nr su.na bad masks (with_setting su.na masks (limit_of su mask v)) v;
     })

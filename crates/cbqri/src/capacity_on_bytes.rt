@@ -1,6 +1,6 @@
 // The capacity controller's functions for C, on bytes.
 ghost use Rattle.std.specs.Prelude.{◌≡◌, [], ◌∷◌};
-ghost use Rattle.capacity_model.specs.Calls.{reset, read, write, fill, evict, count};
+ghost use Rattle.capacity_model.specs.Calls.{reset, read, write, fill, evict};
 ghost use Rattle.replies.specs.Replies.{reply};
 ghost use Rattle.capacity_bytes.specs.Bytes.{setup_by, step_bytes};
 ghost use Rattle.capacity_bytes.specs.View.{before, after};
@@ -102,22 +102,4 @@ pub extern "C" fn cbqri_capacity_evict(
     ensures { reply result [] (after «record» masks counters events owners) ≡ step_bytes (before «record» masks counters events owners) (evict unit) }
 {
     capacity_bytes::evict(record, masks, counters, events, owners, unit)
-}
-
-#[unsafe(no_mangle)]
-pub extern "C" fn cbqri_capacity_count(
-    record: &[u8],
-    masks: &[u8],
-    counters: &[u8],
-    events: &[u8],
-    owners: &[u8],
-    rcid: u64,
-    at: u64,
-    blocks: &mut u64,
-) -> u64
-    ensures { reply result (blocks.new ∷ []) (after «record» masks counters events owners) ≡ step_bytes (before «record» masks counters events owners) (count rcid at) }
-{
-    let answered = capacity_bytes::count(record, masks, counters, events, owners, rcid, at);
-    *blocks = answered.value;
-    answered.number
 }

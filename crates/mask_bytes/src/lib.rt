@@ -1,5 +1,10 @@
 // Masks of n words each in a table that is lent as little-endian bytes.
-ghost use Rattle.std.specs.Prelude.{◌≡◌, cond, List, ◌++◌, ℕ, ◌+◌, ◌-◌, ◌*◌, ◌^◌, ◌≤◌, T, length, get_or, replicate};
+ghost use mathlib.Core.Path.{◌≡◌};
+ghost use mathlib.Core.Bool.{cond};
+ghost use mathlib.Core.List.{List, ◌++◌};
+ghost use Prim.Native.Nat.{ℕ, ◌+◌, ◌-◌, ◌*◌, ◌^◌, ◌≤◌};
+ghost use lib.Dec.{T};
+ghost use lib.ListN.{length, get_or, replicate};
 ghost use Rattle.tables.specs.Parts.{with_part};
 ghost use Rattle.tables.specs.View.{union_below};
 ghost use Rattle.words.specs.Words.{table_of, bytes_of_all};

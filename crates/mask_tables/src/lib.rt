@@ -1,7 +1,10 @@
 // Masks of several words, the lowest first: a mask as 16 words, and masks of n words each in a lent table.
 mod table;
 
-ghost use Rattle.std.specs.Prelude.{◌≡◌, ℕ, ◌-◌, ◌*◌, ◌%◌, ◌^◌, ◌≤◌, ◌<◌, eqb, length};
+ghost use mathlib.Core.Path.{◌≡◌};
+ghost use Prim.Native.Nat.{ℕ, ◌-◌, ◌*◌, ◌%◌, ◌^◌, ◌≤◌, ◌<◌};
+ghost use lib.Dec.{eqb};
+ghost use lib.ListN.{length};
 ghost use Rattle.numbers.specs.Numbers.{words_for, word_of, put_word, bits_below, number_in, words_of};
 ghost use Rattle.mask_tables.specs.Masks.{TopsOf};
 

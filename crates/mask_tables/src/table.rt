@@ -1,5 +1,10 @@
 // Masks of n words each in a lent table.
-ghost use Rattle.std.specs.Prelude.{◌≡◌, cond, ◌++◌, ℕ, ◌+◌, ◌-◌, ◌*◌, ◌^◌, ◌≤◌, T, length, get_or, replicate};
+ghost use mathlib.Core.Path.{◌≡◌};
+ghost use mathlib.Core.Bool.{cond};
+ghost use mathlib.Core.List.{◌++◌};
+ghost use Prim.Native.Nat.{ℕ, ◌+◌, ◌-◌, ◌*◌, ◌^◌, ◌≤◌};
+ghost use lib.Dec.{T};
+ghost use lib.ListN.{length, get_or, replicate};
 ghost use Rattle.tables.specs.Parts.{with_part};
 ghost use Rattle.tables.specs.View.{union_below};
 ghost use Rattle.numbers.specs.Numbers.{words_for, number_in, words_of, number_at, words_of_all};

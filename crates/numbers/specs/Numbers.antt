@@ -1,5 +1,8 @@
 -- Numbers of n words of 64 bits, the lowest first, and tables of such numbers.
-use Rattle.std.specs.Prelude.{Bool, List, [], ◌∷◌, ◌++◌, ℕ, zero, suc, ◌+◌, ◌*◌, ◌/◌, ◌%◌, ◌^◌, length}
+use mathlib.Core.Bool.{Bool}
+use mathlib.Core.List.{List, [], ◌∷◌, ◌++◌}
+use Prim.Native.Nat.{ℕ, zero, suc, ◌+◌, ◌*◌, ◌/◌, ◌%◌, ◌^◌}
+use lib.ListN.{length}
 use Rattle.tables.specs.Notation.{if◌then◌else◌, ◌==◌, ◌‼◌}
 use Rattle.tables.specs.Below.{sum_below}
 use Rattle.tables.specs.Parts.{with_part}

@@ -2,7 +2,7 @@
 use mathlib.Core.Path.{◌≡◌, refl, sym, ap, ◌∙◌}
 use mathlib.Core.Bool.{Bool, cond}
 use mathlib.Core.List.{List, [], ◌∷◌}
-use Prim.Native.Nat.{ℕ, ◌+◌, ◌<◌}
+use Prim.Native.Nat.{ℕ, ◌<◌}
 use lib.Dec.{T}
 use Rattle.fields.specs.Layout.{unpack}
 use Rattle.fields.specs.Registers.{mon_ctl}
@@ -10,7 +10,6 @@ use Rattle.tables.proofs.Tests.{cases, cond_yes}
 use Rattle.access.specs.Checks.{Kind, resets, writes, other}
 use Rattle.access.specs.Access as access
 use Rattle.access.specs.Pairs.{word_at, Setting}
-use Rattle.access.proofs.Access.{operand_word}
 use Rattle.allocation.specs.Allocation.{performs, rcid_of, at_of, alloc_word, operation_status, succeeds, operand_after}
 use Rattle.codes.specs.Codes.{alloc_ops}
 use Rattle.codes.specs.declared.Resource.{Resource}
@@ -22,12 +21,12 @@ use Rattle.monitor.specs.Tally.{Tally}
 use Rattle.monitor.proofs.Control.{mon_word_fields}
 use Rattle.monitor.proofs.Operations.{mon_status_lt}
 use Rattle.runs.specs.Runs.{Outcome, Event, after, noting, Keeper, TallyKeeper, Machine, step_of, note_of, note_after, Always}
-use Rattle.runs.specs.Claims.{Book, Part, Reads, ReadsWords, Shows, Notes, control_after, notes, settings, Stands, Lasting, RegisterReads, AllRegisterReads}
+use Rattle.runs.specs.Claims.{Book, Part, Reads, Shows, Notes, control_after, notes, settings, Stands, Lasting, RegisterReads, AllRegisterReads}
 use Rattle.runs.proofs.Steps.{done_step, done_by}
 use Rattle.runs.proofs.Laws.{Accepts, Keeps, keeps_always, note_part}
 use Rattle.runs.proofs.Settings.{Acts, Lasts, Back, Settings, stands, standing}
 
--- the parts of a controller's state; bw_alloc or block_mask and its words; whether the operand of the CONFIG_LIMIT that a value performs is bad
+-- the parts of a controller's state; whether the operand of the CONFIG_LIMIT that a value performs is bad
 pub record Parts (S U : Type 0) : Type 0 where
   pub setup : S → U
   pub nr : U → ℕ
@@ -35,8 +34,6 @@ pub record Parts (S U : Type 0) : Type 0 where
   pub nm : U → ℕ
   pub resource : Resource
   pub table : S → List ℕ
-  pub operand : S → ℕ
-  pub word_in : ℕ → ℕ → ℕ
   pub bad : S → ℕ → Bool
   pub registers : S → access.RegisterFile
 
@@ -60,15 +57,13 @@ pub record Registered {S U C A : Type 0} (m : Machine S U C A) (q : Parts S U) :
   pub mon : (s : S) (c : C)
       → (q.registers (m.perform s c).state).mon_ctl ≡ control_after access.mon_ctl (λ v. mon_word (q.na (q.setup s)) v 0 (mon_status_in q s v)) (q.registers s).mon_ctl (m.kind_of c)
   pub operand : (s : S) (size v : ℕ)
-      → q.operand (m.perform s (m.write size (24) v)).state ≡ operand_after q.resource (q.nr (q.setup s)) (q.na (q.setup s)) (q.bad s v) (q.table s) (q.operand s) v
-  pub words : (s : S) → (q.registers s).operand ≡ q.word_in (q.operand s)
+      → (q.registers (m.perform s (m.write size (24) v)).state).operand ≡ operand_after q.resource (q.nr (q.setup s)) (q.na (q.setup s)) (q.bad s v) (q.table s) (q.registers s).operand v
 
 -- a ledger that knows the state's set-up and operand
 pub record Agrees {S U C A L X : Type 0} (m : Machine S U C A) (q : Parts S U) (b : Book S U C A L X) (s : S) (l : L) : Type 0 where
   pub na : b.na l ≡ q.na (q.setup s)
   pub capabilities : b.capabilities l ≡ (q.registers s).capabilities
-  pub operand : b.operand l ≡ q.operand s
-  pub words : b.word_in ≡ q.word_in
+  pub operand : b.operand l ≡ (q.registers s).operand
   pub status : (v : ℕ) → b.status_by l v ≡ status_in q s v
   pub mon : (v : ℕ) → b.mon_status_by l v ≡ mon_status_in q s v
   pub value : X
@@ -88,11 +83,6 @@ module _ {S U C A : Type 0} {m : Machine S U C A} {q : Parts S U} (h : Registere
   pub reads_now : (s : S) (register : ℕ) → Reads m s register (access.word_of (q.registers s) register)
   reads_now s register size offset v o e = value_is s size offset v e ∙ ap (λ (r : ℕ). access.part size offset (access.word_of (q.registers s) r)) o
 
-  -- and what one of bw_alloc or block_mask answers
-  pub reads_words : (s : S) → ReadsWords m s (q.word_in (q.operand s))
-  reads_words s i =
-      rw (← ap (λ (f : ℕ → ℕ). f i) (h.words s), ← operand_word (q.registers s) i) (reads_now s (access.operand + i))
-
   module _ (s : S) (size v : ℕ) where
     shown_alloc : (x : ℕ) → Shows m s access.alloc_ctl size v x → x ≡ alloc_word (q.na (q.setup s)) v 0 (status_in q s v)
     unfolding access.part control_after
@@ -111,20 +101,20 @@ module _ {S U C A : Type 0} {m : Machine S U C A} {q : Parts S U} (h : Registere
     -- READ_LIMIT copies the word of a pair that is there
     read_word : (rcid at : ℕ) → rcid < q.nr (q.setup s) → at < q.na (q.setup s) → T (performs q.resource ReadLimit v) → rcid_of v ≡ rcid
         → at_of (q.na (q.setup s)) v ≡ at → T (m.accepted (step_of m s (m.write size 24 v)).answer)
-        → q.operand (step_of m s (m.write size 24 v)).state ≡ word_at (q.na (q.setup s)) (q.table s) rcid at
+        → (q.registers (step_of m s (m.write size 24 v)).state).operand ≡ word_at (q.na (q.setup s)) (q.table s) rcid at
     unfolding operand_after
     read_word rcid at lr la o er ea t =
         let nr = q.nr (q.setup s) in
         let na = q.na (q.setup s) in
         let d = read_done q.resource nr na (q.bad s v) v o (record { rcid_low = rw er lr; at_low = rw ea la }) in
-        ap (λ (x : Outcome S A). q.operand x.state) (done_step h.accepting s (m.write size 24 v) t)
-        ∙ h.operand s size v ∙ cond_yes (succeeds q.resource nr na (q.bad s v) ReadLimit v) _ (q.operand s) d ∙ rw (er, ea) refl
+        ap (λ (x : Outcome S A). (q.registers x.state).operand) (done_step h.accepting s (m.write size 24 v) t)
+        ∙ h.operand s size v ∙ cond_yes (succeeds q.resource nr na (q.bad s v) ReadLimit v) _ (q.registers s).operand d ∙ rw (er, ea) refl
 
 -- ---- settings
 
 module _ {S U C A L : Type 0} {m : Machine S U C A} {q : Parts S U} {b : Book S U C A L ℕ} {Inv : S → L → Type 0} {setup_by : L → U} {acts : Acts q.nr q.na} {part : Part ℕ}
     (h : Registered m q) (k : Settings m b Inv q.setup setup_by acts q.table) (na : (l : L) → b.na l ≡ q.na (setup_by l))
-    (at : (l : L) (s : S) → q.setup s ≡ setup_by l → (rcid at : ℕ) → b.value_at l s rcid at ≡ word_at (q.na (setup_by l)) (q.table s) rcid at) (words : b.word_in ≡ q.word_in) (number : (w : ℕ) → b.number_of w ≡ w) where
+    (at : (l : L) (s : S) (rcid at : ℕ) → b.value_at l s rcid at ≡ word_at (q.na (setup_by l)) (q.table s) rcid at) (word : (w : ℕ) → b.word_of w ≡ w) where
   pub lasting : Lasts acts part → (s : S) (l : L) → Inv s l → Lasting m b part s l
   unfolding performs alloc_ops
   lasting d s l i =
@@ -133,15 +123,15 @@ module _ {S U C A L : Type 0} {m : Machine S U C A} {q : Parts S U} {b : Book S 
       record {
         kept = λ c between p e.
             let x = back c between p e in
-            ap part.of (at l _ x.same p.rcid p.at) ∙ (rw x.same at x.word);
+            ap part.of (at l _ p.rcid p.at) ∙ (rw x.same at x.word);
         read_back = λ c between p size v e o er ea t.
             let x = back c between p e in
             let y = after (step_of m) s (c ∷ between) in
             record {
               value = _;
               same = x.word;
-              reads = rw (words, number _, ← read_word h y size v p.rcid p.at x.rcid_low x.at_low o er (ap (λ (u : U). at_of (q.na u) v) x.same ∙ ap (λ (n : ℕ). at_of n v) (sym (na l)) ∙ ea) t)
-                  (reads_words h (step_of m y (m.write size 24 v)).state);
+              reads = rw (word _, ← read_word h y size v p.rcid p.at x.rcid_low x.at_low o er (ap (λ (u : U). at_of (q.na u) v) x.same ∙ ap (λ (n : ℕ). at_of n v) (sym (na l)) ∙ ea) t)
+                  (reads_now h (step_of m y (m.write size 24 v)).state access.operand);
             };
       }
 
@@ -201,7 +191,7 @@ module _ {S U C A L X K : Type 0} {m : Machine S U C A} {q : Parts S U} {b : Boo
       let nr = q.nr (q.setup s) in
       let na = q.na (q.setup s) in
       record {
-        reads = λ register. rw (← i.alloc, ← i.mon, g.capabilities, g.words, g.operand, ← h.words s, ← k.shown s n.tally i.counts) (reads_now h s register);
+        reads = λ register. rw (← i.alloc, ← i.mon, g.capabilities, g.operand, ← k.shown s n.tally i.counts) (reads_now h s register);
         alloc = λ size v x e. rw (g.na, g.status v) (read_fields q.resource nr na (q.bad s v) v x (shown_alloc h s size v x e));
         set = λ size v x e.
             rw (g.na, cond_yes (m.accepted (step_of m s (m.write size 24 v)).answer) (b.settings_by l (m.write size 24 v)) [] e.written, g.sets size v)

@@ -1,5 +1,5 @@
 -- What is claimed of both controllers alike: of the state and of notes of calls and answers, after any list of calls that an accepted reset opens.
-use Rattle.access.specs.Logic.{◌≡◌, Bool, not, ◌&&◌, ◌||◌, List, [], ◌∷◌, List-as-Memᴰ, ◌↔◌, ℕ, ◌+◌, ◌*◌, ◌<◌, T, get_or, if◌then◌else◌, ◌==◌, ◌≤?◌, ◌‼◌}
+use Rattle.access.specs.Logic.{◌≡◌, Bool, not, ◌&&◌, ◌||◌, List, [], ◌∷◌, List-as-Memᴰ, ◌↔◌, ℕ, ◌*◌, ◌<◌, T, get_or, if◌then◌else◌, ◌==◌, ◌≤?◌, ◌‼◌}
 use Rattle.fields.specs.Layout.{unpack}
 use Rattle.fields.specs.Registers as reg
 use Rattle.access.specs.declared.Refusal.TheVariants.{State}
@@ -20,20 +20,19 @@ pub record Book (S U C A L X : Type 0) : Type 0 where
   pub keeper : Keeper U C A L
   -- whose tables of operations and events it has
   pub resource : Resource
-  -- NA; capabilities; bw_alloc or block_mask, and word i of such a number
+  -- NA; capabilities; bw_alloc or block_mask
   pub na : L → ℕ
   pub capabilities : L → ℕ
   pub operand : L → ℕ
-  pub word_in : ℕ → ℕ → ℕ
   -- the checks of a call, and the STATUS of what a value written to alloc_ctl or mon_ctl performs
   pub checks_by : L → C → List Check
   pub status_by : L → ℕ → ℕ
   pub mon_status_by : L → ℕ → ℕ
   -- the settings that an accepted call makes, by the ledger as it stood before the call
   pub settings_by : L → C → List (Setting X)
-  -- the value of a pair in a state, by the set-up of this ledger; the number of a value, as READ_LIMIT copies it
+  -- the value of a pair in a state, by the set-up of this ledger; the word of a value, as READ_LIMIT copies it
   pub value_at : L → S → ℕ → ℕ → X
-  pub number_of : X → ℕ
+  pub word_of : X → ℕ
 
 -- a part of what a setting stores; ends q p: the setting q ends that part of the setting p
 pub record Part (X : Type 0) : Type 0 where
@@ -67,10 +66,6 @@ module _ {S U C A : Type 0} (m : Machine S U C A) where
   abbrev pub Reads : S → ℕ → ℕ → Type 0
   Reads s register word =
       (size offset v : ℕ) → access.register_at offset ≡ register → (step_of m s (m.read size offset)).answer ≡ m.value v → v ≡ access.part size offset word
-
-  -- every accepted read of bw_alloc or block_mask in the state s, of any of its words
-  abbrev pub ReadsWords : S → (ℕ → ℕ) → Type 0
-  ReadsWords s word = (i : ℕ) → Reads s (access.operand + i) (word i)
 
   -- a write of v to a control register is accepted in the state s, and a read of the register then gives x
   pub record Shows (s : S) (register size v x : ℕ) : Type 0 where
@@ -115,7 +110,7 @@ module _ {S U C A L X : Type 0} (m : Machine S U C A) (b : Book S U C A L X) whe
   -- the words that the registers hold by the notes
   abbrev pub registers_by : {K : Type 0} → Notes L (Tally U K) → access.RegisterFile
   registers_by n = record
-      { capabilities = b.capabilities n.ledger; mon_ctl = n.mon_ctl; mon_ctr_val = n.tally.shown; alloc_ctl = n.alloc_ctl; operand = b.word_in (b.operand n.ledger) }
+      { capabilities = b.capabilities n.ledger; mon_ctl = n.mon_ctl; mon_ctr_val = n.tally.shown; alloc_ctl = n.alloc_ctl; operand = b.operand n.ledger }
 
   -- ---- settings, and what ends one
 
@@ -127,7 +122,7 @@ module _ {S U C A L X : Type 0} (m : Machine S U C A) (b : Book S U C A L X) whe
   pub record ReadsPart (part : Part X) (s : S) (x : X) : Type 0 where
     pub value : X
     pub same : part.of value ≡ part.of x
-    pub reads : ReadsWords m s (b.word_in (b.number_of value))
+    pub reads : Reads m s access.operand (b.word_of value)
 
   module _ (part : Part X) where
     -- the event ends that part of the setting p, or is an accepted reset

@@ -60,7 +60,7 @@ impl Capacity {
     /// Before an RCID is given to another job, its units are flushed:
     ///
     /// ```
-    /// use cbqri::{registers as reg, Capacity, CapacitySetup, Mask, Status};
+    /// use cbqri::{registers as reg, Capacity, CapacitySetup, Status};
     ///
     /// # fn main() -> Result<(), cbqri::Refusal> {
     /// # let setup = CapacitySetup { ncblks: 4, nr: 2, na: 1, nm: 2, w: 24, u: 2 };
@@ -77,7 +77,7 @@ impl Capacity {
     /// cc.write(8, reg::ALLOC_CTL, reg::alloc_ctl(reg::FLUSH_RCID, 0, 1))?;
     /// assert_eq!(Status::of_alloc(cc.read(8, reg::ALLOC_CTL)?), Some(Status::Ok));
     /// assert_eq!((cc.owner(2), cc.owner(3), cc.owner(4).is_some()), (None, None, true));
-    /// assert_eq!((cc.counter(1).unwrap().value, cc.mask(1, 0)), (0, Some(Mask::from(0x3))));
+    /// assert_eq!((cc.counter(1).unwrap().value, cc.mask(1, 0)), (0, Some(0x3)));
     /// # Ok(())
     /// # }
     /// ```

@@ -5,7 +5,6 @@ mod bandwidth;
 mod capacity;
 mod case;
 mod codes;
-mod counts;
 mod devices;
 mod flush;
 mod forms;
@@ -18,8 +17,6 @@ mod sweep;
 mod units;
 mod waiters;
 mod weights;
-mod wide;
-mod widest;
 
 /// Who answers the calls of a case.
 #[derive(Clone, Copy, Debug, PartialEq, Eq)]
@@ -68,9 +65,6 @@ fn all(side: Side) -> Report {
     capacity::run(&mut report);
     units::run(&mut report);
     flush::run(&mut report);
-    wide::run(&mut report);
-    widest::run(&mut report);
-    counts::run(&mut report);
     codes::run(&mut report);
     forms::run(&mut report);
     refusals::run(&mut report);

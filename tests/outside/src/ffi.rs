@@ -53,7 +53,6 @@ capacity_function!(cbqri_capacity_write(; size: u64, offset: u64, value: u64));
 capacity_function!(cbqri_capacity_fill(; rcid: u64, mcid: u64, at: u64, unit: u64,
     allowed: &mut u64));
 capacity_function!(cbqri_capacity_evict(; unit: u64));
-capacity_function!(cbqri_capacity_count(; rcid: u64, at: u64, blocks: &mut u64));
 
 /// The answer of a call that hands nothing back but its refusal.
 fn plain(refusal: u64) -> Answer {
@@ -112,6 +111,5 @@ pub fn capacity(memory: &mut Memory, call: &capacity::Call) -> Answer {
             with_value(|allowed| cbqri_capacity_fill(memory, f.rcid, f.mcid, f.at, f.unit, allowed))
         }
         Evict { unit } => plain(cbqri_capacity_evict(memory, unit)),
-        Count { rcid, at } => with_value(|blocks| cbqri_capacity_count(memory, rcid, at, blocks)),
     }
 }

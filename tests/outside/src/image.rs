@@ -84,9 +84,9 @@ impl Image for capacity::State {
         let capacity::Record { setup: s, mon_ctl, mon_ctr_val, alloc_ctl, block_mask } =
             self.record;
         let setup = [s.ncblks, s.nr, s.na, s.nm, s.w, s.u];
-        let rest = [mon_ctl, mon_ctr_val, alloc_ctl];
+        let rest = [mon_ctl, mon_ctr_val, alloc_ctl, block_mask];
         vec![
-            Word::bytes(&[&setup[..], &rest[..], &block_mask.0[..]].concat()),
+            Word::bytes(&[&setup[..], &rest[..]].concat()),
             Word::bytes(&self.masks),
             Word::bytes(&self.counters),
             Word::bytes(&self.events),
@@ -95,10 +95,9 @@ impl Image for capacity::State {
     }
 
     fn of(contents: &[Vec<u8>]) -> capacity::State {
-        let [ncblks, nr, na, nm, w, u, mon_ctl, mon_ctr_val, alloc_ctl, block_mask @ ..] =
-            record_words::<25>(&contents[0]);
+        let [ncblks, nr, na, nm, w, u, mon_ctl, mon_ctr_val, alloc_ctl, block_mask] =
+            record_words(&contents[0]);
         let setup = capacity::Setup { ncblks, nr, na, nm, w, u };
-        let block_mask = capacity::Mask(block_mask);
         capacity::State {
             record: capacity::Record { setup, mon_ctl, mon_ctr_val, alloc_ctl, block_mask },
             masks: Word::words(&contents[1]),

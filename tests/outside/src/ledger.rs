@@ -28,9 +28,8 @@ pub trait Ledger: Sized {
     fn after_reset(setup: &Self::Setup) -> Self;
 
     fn setup(&self) -> &Self::Setup;
-    /// A word of bw_alloc, which has one, or of block_mask.
-    fn operand(&self, word: usize) -> u64;
-    fn write_operand(&mut self, word: usize, part: Part, value: u64);
+    fn operand(&self) -> u64;
+    fn write_operand(&mut self, part: Part, value: u64);
 
     /// An operation of alloc_ctl, its STATUS worked out over the ledger's words.
     fn operate(&mut self, fields: u64);
@@ -66,11 +65,9 @@ pub trait Ledger: Sized {
     }
 
     fn write(&mut self, size: u64, offset: u64, value: u64) {
-        let (na, part) = (self.setup().na(), access::part(size, offset));
-        if let Some(word) = access::operand_word(offset) {
-            return self.write_operand(word, part, value);
-        }
-        match (access::register(offset), part) {
+        let na = self.setup().na();
+        match (access::register(offset), access::part(size, offset)) {
+            (access::OPERAND, part) => self.write_operand(part, value),
             (_, Part::High) => {}
             (access::ALLOC_CTL, _) => self.operate(alloc_ctl_fields(value, na)),
             (access::MON_CTL, _) => {
@@ -86,11 +83,10 @@ pub trait Ledger: Sized {
     /// A read of bw_alloc or block_mask gives the ledger's word; another register is not claimed
     /// here.
     fn claim_read(&self, size: u64, offset: u64, value: u64) -> Result<(), String> {
-        let word = match access::operand_word(offset) {
-            Some(word) => self.operand(word),
-            None => return Ok(()),
-        };
-        let expected = access::read_part(word, access::part(size, offset));
+        if access::register(offset) != access::OPERAND {
+            return Ok(());
+        }
+        let expected = access::read_part(self.operand(), access::part(size, offset));
         let text = || format!("{} read {value:#x}, not {expected:#x}", Self::OPERAND);
         claim(value == expected, text)
     }

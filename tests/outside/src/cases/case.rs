@@ -272,32 +272,6 @@ impl<'a> Case<'a, Capacity> {
         self.answers("eviction", &capacity::Call::Evict { unit }, 0);
     }
 
-    /// How many blocks RCID and AT may fill.
-    pub fn count(&mut self, name: &str, pair: (u64, u64), blocks: u64) {
-        self.answers(name, &count(pair), blocks);
-    }
-
-    /// Writes every word of block_mask.
-    pub fn write_mask(&mut self, words: &[u64]) {
-        for (offset, &word) in (OPERAND..).step_by(8).zip(words) {
-            self.write(8, offset, word);
-        }
-    }
-
-    /// Writes a mask and CONFIG_LIMIT for a pair, and expects its STATUS.
-    pub fn configure_mask(&mut self, name: &str, pair: (u64, u64), words: &[u64], status: u64) {
-        self.write_mask(words);
-        self.alloc(name, pair.0 << 8 | pair.1 << 5 | CONFIG_LIMIT, status);
-    }
-
-    /// READ_LIMIT of a pair, and every word of block_mask after it.
-    pub fn read_mask(&mut self, name: &str, pair: (u64, u64), words: &[u64]) {
-        self.alloc(name, pair.0 << 8 | pair.1 << 5 | READ_LIMIT, 1);
-        for (offset, &word) in (OPERAND..).step_by(8).zip(words) {
-            self.read(name, 8, offset, word);
-        }
-    }
-
     /// FLUSH_RCID of an RCID that exists.
     pub fn flush(&mut self, name: &str, rcid: u64) {
         self.alloc(name, rcid << 8 | FLUSH_RCID, 1);
@@ -307,10 +281,6 @@ impl<'a> Case<'a, Capacity> {
 pub fn capacity_setup(numbers: [u64; 6]) -> capacity::Setup {
     let [ncblks, nr, na, nm, w, u] = numbers;
     capacity::Setup { ncblks, nr, na, nm, w, u }
-}
-
-pub fn count((rcid, at): (u64, u64)) -> capacity::Call {
-    capacity::Call::Count { rcid, at }
 }
 
 pub fn fill([rcid, mcid, at, unit]: [u64; 4]) -> capacity::Call {

@@ -165,7 +165,7 @@ fn try_bandwidth(numbers: [u64; 7]) -> Try<Bandwidth> {
 fn capacity_forms(report: &mut Report) {
     use super::case::capacity_record::*;
     use capacity::slices::*;
-    let forms: [Form; 32] = [
+    let forms: [Form; 30] = [
         ("every field of mon_ctl", RECORD, MON_CTL_WORD, 0x7F_1FFF_FFFF, 0),
         ("BUSY of mon_ctl", RECORD, MON_CTL_WORD, 0x80_0000_0000, 3),
         ("any mon_ctr_val", RECORD, MON_CTR_VAL_WORD, u64::MAX, 0),
@@ -173,8 +173,6 @@ fn capacity_forms(report: &mut Report) {
         ("BUSY of alloc_ctl", RECORD, ALLOC_CTL_WORD, 0x80_0000_0000, 3),
         ("every block", RECORD, BLOCK_MASK_WORD, 0xFF, 0),
         ("block 8 of block_mask", RECORD, BLOCK_MASK_WORD, 0x100, 3),
-        ("block 64 of block_mask", RECORD, BLOCK_MASK_WORD + 1, 1, 3),
-        ("block 1,023 of block_mask", RECORD, BLOCK_MASK_WORD + 15, 1 << 63, 3),
         ("a mask of 0 is an unset pair", MASKS, 0, 0, 0),
         ("any blocks", MASKS, 7, 0xA5, 0),
         ("block 8 of a mask", MASKS, 7, 0x1FF, 3),

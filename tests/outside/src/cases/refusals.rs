@@ -1,7 +1,7 @@
 //! Refusals 1, 2 and 4 to 7, and the order in which they are judged.
 
 use super::case::bandwidth_record::W;
-use super::case::{bandwidth_setup, capacity_setup, count, fill, BandwidthCase, CapacityCase};
+use super::case::{bandwidth_setup, capacity_setup, fill, BandwidthCase, CapacityCase};
 use super::Report;
 use crate::model::bandwidth::slices::*;
 use crate::model::{bandwidth, capacity};
@@ -50,7 +50,7 @@ fn reset_of(numbers: [u64; 7]) -> bandwidth::Call {
 
 fn capacity_ranges(report: &mut Report) {
     let lowest = [1, 1, 1, 1, 24, 1];
-    let highest = [1_024, 256, 8, 256, 62, 64];
+    let highest = [64, 256, 8, 256, 62, 64];
     for numbers in [lowest, highest] {
         CapacityCase::after_reset(report, numbers);
     }
@@ -135,7 +135,6 @@ fn capacity_lengths(report: &mut Report) {
                 c.refuses("a read", &capacity::Call::Read { size: 8, offset: 0 }, number);
                 c.refuses("a fill", &fill([0, 0, 0, 0]), number);
                 c.refuses("an eviction", &capacity::Call::Evict { unit: 0 }, number);
-                c.refuses("a count", &count((0, 0)), number);
                 let reset = capacity::Call::Reset(capacity_setup(CAPACITY));
                 c.refuses("a reset", &reset, number);
             });

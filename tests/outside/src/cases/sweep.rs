@@ -16,16 +16,13 @@ pub fn run(report: &mut Report) {
         bandwidth_settings(report, nr, na);
         bandwidth_sharers(report, nr, na);
         bandwidth_waiters(report, nr, na);
-        capacity_masks(report, 47, nr, na);
-    }
-    for (ncblks, nr, na) in [(100, 43, 3), (257, 26, 5), (1_000, 17, 2)] {
-        capacity_masks(report, ncblks, nr, na);
+        capacity_masks(report, nr, na);
     }
     for nm in [1, 7, 33, 256] {
         bandwidth_counters(report, nm);
         capacity_counters(report, nm);
     }
-    for (ncblks, u) in [(64, 64), (64, 1), (1, 64), (1, 1), (13, 7), (31, 33), (1_024, 1)] {
+    for (ncblks, u) in [(64, 64), (64, 1), (1, 64), (1, 1), (13, 7), (31, 33)] {
         capacity_owners(report, ncblks, u);
     }
 }
@@ -144,18 +141,13 @@ fn bandwidth_counters(report: &mut Report, nm: u64) {
     }
 }
 
-/// Words of 64 blocks, and a last one with fewer: the bits above these are held as 0.
-fn capacity_masks(report: &mut Report, ncblks: u64, nr: u64, na: u64) {
-    let mut c = CapacityCase::after_reset(report, [ncblks, nr, na, 3, 24, 1]);
-    let (words, last) = (ncblks as usize / 64 + 1, ncblks % 64);
-    for place in 0..(nr * na) as usize * words {
+/// 47 blocks: bit 47 and those above are held as 0.
+fn capacity_masks(report: &mut Report, nr: u64, na: u64) {
+    let mut c = CapacityCase::after_reset(report, [47, nr, na, 3, 24, 1]);
+    for place in 0..(nr * na) as usize {
+        probe(&mut c, "every block", &[(MASKS, place, (1 << 47) - 1)], 0);
         probe(&mut c, "no block", &[(MASKS, place, 0)], 0);
-        if (place + 1) % words != 0 {
-            probe(&mut c, "every block", &[(MASKS, place, u64::MAX)], 0);
-            continue;
-        }
-        probe(&mut c, "every block", &[(MASKS, place, (1 << last) - 1)], 0);
-        probe(&mut c, "bit NCBLKS", &[(MASKS, place, 1 << last)], 3);
+        probe(&mut c, "bit 47", &[(MASKS, place, 1 << 47)], 3);
         probe(&mut c, "bit 63", &[(MASKS, place, 1 << 63)], 3);
     }
 }

@@ -1,7 +1,5 @@
 //! What a run shows of the capacity controller.
 
-mod counts;
-mod masks;
 mod setups;
 mod units;
 
@@ -24,39 +22,27 @@ pub fn call_name(call: &Call) -> &'static str {
         Call::Write { .. } => "write",
         Call::Fill(_) => "fill",
         Call::Evict { .. } => "evict",
-        Call::Count { .. } => "count",
     }
 }
 
 pub fn accepted(before: &State, call: &Call, answer: Answer, after: &State) -> Labels {
-    let setup = &before.record.setup;
     match call {
-        Call::Write { size, offset, value } => {
-            let mut labels = written(before, *offset, after);
-            labels.extend(masks::access("write", setup, *size, *offset));
-            labels.extend(masks::written(before, *size, *offset, *value));
-            labels
-        }
+        Call::Write { offset, .. } => written(before, *offset, after),
         Call::Fill(fill) => {
-            let allowed = answer.value == 1;
-            let labels = [units::fill(before, fill, allowed), masks::fill(before, fill, allowed)];
-            [labels.concat(), counter_changes("fill", before, after)].concat()
+            let labels = units::fill(before, fill, answer.value == 1);
+            [labels, counter_changes("fill", before, after)].concat()
         }
         Call::Evict { unit } => {
             [units::evict(before, *unit), counter_changes("eviction", before, after)].concat()
         }
         Call::Reset(setup) => setups::reset(before, setup),
-        Call::Read { size, offset } => masks::access("read", setup, *size, *offset),
-        Call::Count { rcid, at } => counts::accepted(before, *rcid, *at, answer.value),
+        Call::Read { .. } => Labels::new(),
     }
 }
 
 fn written(before: &State, offset: u64, after: &State) -> Labels {
     let (alloc_ctl, mon_ctl) = (after.record.alloc_ctl, after.record.mon_ctl);
     let mut labels = operation(offset, alloc_ctl, mon_ctl, &ROWS);
-    if offset == ALLOC_CTL {
-        labels.extend(masks::operated(before, after));
-    }
     if offset == ALLOC_CTL && OP.get(alloc_ctl) == FLUSH_RCID {
         labels.extend(units::flush(before, after));
         labels.extend(counter_changes("flush", before, after));
@@ -88,8 +74,6 @@ fn owns(state: &State, mcid: u64) -> bool {
 /// What a state showed, beside its fault, that was refused by 3.
 pub fn fault(state: &State) -> Labels {
     match state.fault() {
-        Some("block_mask") => masks::block_mask_fault(state),
-        Some("a mask") => masks::fault(state),
         Some("an owner") => units::fault(state),
         _ => Labels::new(),
     }
@@ -105,13 +89,6 @@ pub fn refused(before: &State, call: &Call, number: u64) -> Labels {
         }
         Call::Evict { unit } => setups::no_unit("evict", setup, *unit, number),
         Call::Reset(setup) => setups::refused_reset(setup, number),
-        Call::Read { size, offset } if number == 5 => {
-            masks::refused_access("read", setup, *size, *offset)
-        }
-        Call::Write { size, offset, .. } if number == 5 => {
-            masks::refused_access("write", setup, *size, *offset)
-        }
-        Call::Count { rcid, .. } => counts::refused(setup, *rcid),
         _ => Labels::new(),
     }
 }
@@ -145,9 +122,8 @@ const COUNTED: [(&str, &[&str]); 3] = [
     ("flush", &[DOWN, BELOW_0, BY_INVALID]),
 ];
 
-const OTHERS: [&str; 9] = [
+const OTHERS: [&str; 8] = [
     "refused 3 for a register",
-    "refused 3 for block_mask",
     "refused 3 for a mask",
     "refused 3 for an owner",
     "refused 3 for a counter",
@@ -173,8 +149,6 @@ pub fn required() -> Labels {
         labels.extend(changes.iter().map(|change| format!("{call} {change}")));
     }
     labels.extend(setups::required());
-    labels.extend(masks::required());
-    labels.extend(counts::required());
     labels.extend(units::required());
     labels.extend(ledger_required());
     labels

@@ -57,10 +57,9 @@ pub fn scenario(random: &mut Random, state: &State, lengths: &[usize], quiet: bo
 
 /// Any call, with arguments of every kind.
 pub fn any_call(random: &mut Random, setup: &Setup) -> Call {
-    let end = State::registers_end(setup);
     let (size, offset, value) = match random.below(15) {
         0 | 1 => {
-            let (size, offset) = common::access(random, end);
+            let (size, offset) = common::access(random);
             return Call::Read { size, offset };
         }
         2..=4 => {
@@ -70,7 +69,7 @@ pub fn any_call(random: &mut Random, setup: &Setup) -> Call {
         }
         5 => return Call::EndWindow,
         6 if random.percent(40) => return Call::Reset(setups::bandwidth::outside(random)),
-        6..=8 => common::any_write(random, end),
+        6..=8 => common::any_write(random),
         9 | 10 => common::any_alloc_ctl(random, setup.nr, setup.na),
         11 => return waiters::any_wait(random, setup),
         12 => return Call::Need { rcid: random.index(setup.nr) },

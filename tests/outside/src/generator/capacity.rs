@@ -1,21 +1,19 @@
 //! Lists of calls of the capacity controller.
 
 mod damage;
-mod masks;
 mod states;
 mod units;
 
 use super::common;
 use super::{setups, Change, Random, Step};
 use crate::controller::Capacity;
-use crate::model::access::MON_CTR_VAL;
+use crate::model::access::{ALLOC_CTL, MON_CTR_VAL, OPERAND};
 use crate::model::capacity::owners::owner_of;
 use crate::model::capacity::slices::{COUNTERS, EVENTS, OWNERS};
-use crate::model::capacity::{Call, Fill, Setup, State, LAST_EVENT};
-use crate::model::registers::{FLUSH_RCID, READ_COUNTER};
+use crate::model::capacity::{all_blocks, Call, Fill, Setup, State, LAST_EVENT};
+use crate::model::registers::{CONFIG_LIMIT, FLUSH_RCID, READ_COUNTER, READ_LIMIT};
 use crate::model::{Checked, CommonCall, Sizes};
-use masks::{any_count, any_mask, configuration};
-use units::{any_fill, any_flush, any_unit, high_unit, units, FEW};
+use units::{any_fill, any_flush, any_unit, units};
 
 type Steps = Vec<Step<Call>>;
 
@@ -27,20 +25,13 @@ pub fn scenario(random: &mut Random, state: &State, lengths: &[usize], quiet: bo
     }
     let damage = |random: &mut Random| damage::damage(random, state, lengths);
     let call = |random: &mut Random| any_call(random, &setup);
-    // few calls are made on the largest tables: most are such as only these can show
-    if setup.units() > FEW && random.percent(70) {
-        if quiet || random.percent(50) {
-            return high_unit(random, &setup);
-        }
-        return common::damaged_call(random, |random| damage::owner(random, state), call);
-    }
     // large tables may be read in parts: more of what only refusal 3 can show
-    let large = setup.pairs() * setup.mask_words() > 32 || setup.units() > 512;
+    let large = setup.pairs() > 32 || setup.units() > 512;
     if !quiet && large && random.percent(40) {
         return common::damaged_call(random, damage, call);
     }
     match random.below(if quiet { 87 } else { 100 }) {
-        0..=19 => configuration(random, state),
+        0..=19 => configuration(random, &setup),
         20..=44 => units(random, state),
         45..=62 => monitoring(random, state),
         63..=82 => vec![Step::Call(call(random))],
@@ -58,22 +49,56 @@ pub fn scenario(random: &mut Random, state: &State, lengths: &[usize], quiet: bo
 
 /// Any call, with arguments of every kind.
 pub fn any_call(random: &mut Random, setup: &Setup) -> Call {
-    let end = State::registers_end(setup);
-    let (size, offset, value) = match random.below(9) {
+    let (size, offset, value) = match random.below(8) {
         0 => {
-            let (size, offset) = common::access(random, end);
+            let (size, offset) = common::access(random);
             return Call::Read { size, offset };
         }
         1 => return Call::Fill(any_fill(random, setup)),
         2 => return Call::Evict { unit: any_unit(random, setup) },
         3 if random.percent(20) => return Call::Reset(setups::capacity::outside(random)),
-        3 | 4 => common::any_write(random, end),
+        3 | 4 => common::any_write(random),
         5 => common::any_alloc_ctl(random, setup.nr, setup.na),
         6 => any_flush(random, setup),
-        7 => return any_count(random, setup),
         _ => common::any_mon_ctl(random, setup.na, setup.nm, LAST_EVENT),
     };
     Call::Write { size, offset, value }
+}
+
+/// Writes a mask, whole or by halves, asks for it to be configured, and often reads it back.
+fn configuration(random: &mut Random, setup: &Setup) -> Steps {
+    let rcid = random.below(setup.nr);
+    let at = random.below(setup.na);
+    let mask = any_mask(random, setup);
+    let mut steps = match random.below(4) {
+        0 => vec![Step::write((4, OPERAND, mask & 0xFFFF_FFFF))],
+        1 => vec![Step::write((4, OPERAND + 4, mask >> 32))],
+        _ => vec![Step::write((8, OPERAND, mask))],
+    };
+    steps.push(Step::write(common::alloc_ctl(random, CONFIG_LIMIT, rcid, at)));
+    if random.percent(30) {
+        steps.push(Step::read(8, ALLOC_CTL));
+    }
+    if random.percent(40) {
+        let other = random.below(setup.nr);
+        let rcid = random.pick(&[rcid, rcid, other]);
+        steps.push(Step::write(common::alloc_ctl(random, READ_LIMIT, rcid, at)));
+        let half = random.pick(&[(8, OPERAND), (4, OPERAND), (4, OPERAND + 4)]);
+        steps.push(Step::read(half.0, half.1));
+    }
+    steps
+}
+
+/// A mask that often has bits at or above NCBLKS too.
+fn any_mask(random: &mut Random, setup: &Setup) -> u64 {
+    match random.below(8) {
+        0 => 0,
+        1 => all_blocks(setup),
+        2 => !all_blocks(setup),
+        3 => 1 << random.below(setup.ncblks),
+        4 => random.number(),
+        _ => random.next(),
+    }
 }
 
 /// Sets a counter's event, makes fills, evictions and flushes that it may count, and reads it.

@@ -103,31 +103,24 @@ pub fn monitoring<C: CommonCall>(
 /// The arguments of a write: size, offset and value.
 pub type Write = (u64, u64, u64);
 
-/// Size and offset of an access to registers that end here: often a good one, at times of a wrong
-/// size, unaligned, at or beyond the end, or ending beyond 2^64.
-pub fn access(random: &mut Random, end: u64) -> (u64, u64) {
+/// Size and offset of an access: often a good one, at times of a wrong size,
+/// unaligned, ending beyond byte 40 or beyond 2^64.
+pub fn access(random: &mut Random) -> (u64, u64) {
     let size = random.pick(&[4, 8]);
-    match random.below(24) {
-        0 => (random.pick(&[0, 1, 2, 3, 5, 6, 7, 9, 12, 16]), random.below(end + 10)),
-        1 => (size | 1 << random.below(64), 8 * random.below(end / 8)),
-        2 | 3 => (size, random.below(end + 10)),
-        4 => (size, (8 * random.below(end / 8)) | (1 << random.below(64))),
+    match random.below(20) {
+        0 => (random.pick(&[0, 1, 2, 3, 5, 6, 7, 9, 12, 16]), random.below(50)),
+        1 => (size | 1 << random.below(64), 8 * random.below(5)),
+        2 | 3 => (size, random.below(50)),
+        4 => (size, (8 * random.below(5)) | (1 << random.below(64))),
         5 => (size, u64::MAX - random.below(17)),
-        6..=8 => (size, about_an_end(random, end)),
-        9..=16 => (4, 4 * random.below(end / 4)),
-        _ => (8, 8 * random.below(end / 8)),
+        6..=12 => (4, 4 * random.below(10)),
+        _ => (8, 8 * random.below(5)),
     }
 }
 
-/// An offset just before or beyond the end, or where registers with another mask end.
-fn about_an_end(random: &mut Random, end: u64) -> u64 {
-    let other = 40 + 4 * random.below(31);
-    random.pick(&[end - 8, end - 4, end, end + 4, 40, other])
-}
-
 /// Any write, with a value that often fits.
-pub fn any_write(random: &mut Random, end: u64) -> Write {
-    let (size, offset) = access(random, end);
+pub fn any_write(random: &mut Random) -> Write {
+    let (size, offset) = access(random);
     let value = if random.percent(50) { random.number() } else { random.next() };
     if size != 4 {
         return (size, offset, value);

@@ -97,49 +97,27 @@ pub mod capacity {
 
     pub fn in_range(random: &mut Random) -> Setup {
         let Sizes { nr, na, nm, w } = sizes(random);
+        let ncblks = match random.below(6) {
+            0 => 1,
+            1 => 64,
+            2 => random.pick(&[31, 32, 33, 63]),
+            3 => random.between(1, 64),
+            _ => random.between(2, 16),
+        };
         let u = match random.below(6) {
             0 => 1,
             1 => random.pick(&[63, 64, 64]),
             2 => random.between(1, 64),
             _ => random.between(2, 5),
         };
-        let ncblks = if random.percent(30) { several_words(random) } else { one_word(random) };
-        // the largest tables cost the most time
-        let (ncblks, u) = match random.below(100) {
-            0 => (1_024, 64),
-            1..=3 => (random.between(513, 1_024), random.between(8, 16)),
-            4..=15 => (ncblks, u.min(4_096 / ncblks)),
-            _ => (ncblks, u.min(1_280 / ncblks)),
-        };
         Setup { ncblks, nr, na, nm, w, u }
-    }
-
-    /// Blocks whose masks have one word.
-    fn one_word(random: &mut Random) -> u64 {
-        match random.below(6) {
-            0 => 1,
-            1 => 64,
-            2 => random.pick(&[31, 32, 33, 63]),
-            3 => random.between(1, 64),
-            _ => random.between(2, 16),
-        }
-    }
-
-    /// Blocks whose masks have several, up to the ends of words.
-    fn several_words(random: &mut Random) -> u64 {
-        match random.below(8) {
-            0..=2 => random.pick(&[65, 127, 128]),
-            3 | 4 => random.between(65, 300),
-            5 => random.between(65, 1_024),
-            _ => random.pick(&[1_000, 1_023, 1_024]),
-        }
     }
 
     /// A set-up with one number replaced; `random.number()` may still lie in the range.
     pub fn outside(random: &mut Random) -> Setup {
         let mut setup = in_range(random);
         match random.below(6) {
-            0 => setup.ncblks = beyond(random, 1, 1_024),
+            0 => setup.ncblks = beyond(random, 1, 64),
             1 => setup.nr = beyond(random, 1, 256),
             2 => setup.na = beyond(random, 1, 8),
             3 => setup.nm = beyond(random, 1, 256),

@@ -70,11 +70,11 @@ impl super::Ledger for Ledger {
         &self.setup
     }
 
-    fn operand(&self, _word: usize) -> u64 {
+    fn operand(&self) -> u64 {
         self.bw_alloc
     }
 
-    fn write_operand(&mut self, _word: usize, part: Part, value: u64) {
+    fn write_operand(&mut self, part: Part, value: u64) {
         if part != Part::High {
             self.bw_alloc = named_bits(value);
         }

@@ -1,22 +1,22 @@
 //! The ledger of the capacity controller and its claims.
 
-mod blocks;
 mod tally;
 
 use super::{claim, CounterSet};
 use crate::coverage::Labels;
 use crate::model::access::{write_part, Part, ALLOC_CTL};
 use crate::model::capacity::owners::owner_of;
-use crate::model::capacity::{alloc_status, Call, Fill, Setup, State, LAST_EVENT};
+use crate::model::capacity::{
+    all_blocks, alloc_status, first_masks, Call, Fill, Setup, State, LAST_EVENT,
+};
 use crate::model::registers::{AT, CONFIG_LIMIT, DONE, FLUSH_RCID, OP, RCID, READ_LIMIT};
 use crate::model::{access_type, Answer, Sizes};
-use blocks::Blocks;
 use tally::Tally;
 
 pub struct Ledger {
     setup: Setup,
-    block_mask: Blocks,
-    masks: Vec<Blocks>,
+    block_mask: u64,
+    masks: Vec<u64>,
     /// The fill that each unit is owned by; its AT is one that exists.
     owners: Vec<Option<Fill>>,
     tallies: Vec<Tally>,
@@ -31,12 +31,10 @@ impl super::Ledger for Ledger {
     const LAST_EVENT: u64 = LAST_EVENT;
 
     fn after_reset(setup: &Setup) -> Ledger {
-        let mut masks = vec![Blocks::none(setup.ncblks); setup.pairs()];
-        masks[setup.row(0)].fill(Blocks::every(setup.ncblks));
         Ledger {
             setup: *setup,
-            block_mask: Blocks::none(setup.ncblks),
-            masks,
+            block_mask: 0,
+            masks: first_masks(setup),
             owners: vec![None; setup.units() as usize],
             tallies: vec![Tally::default(); setup.nm as usize],
         }
@@ -46,23 +44,22 @@ impl super::Ledger for Ledger {
         &self.setup
     }
 
-    fn operand(&self, word: usize) -> u64 {
-        self.block_mask.word(word)
+    fn operand(&self) -> u64 {
+        self.block_mask
     }
 
-    fn write_operand(&mut self, word: usize, part: Part, value: u64) {
-        let old = self.block_mask.word(word);
-        self.block_mask.set_word(word, write_part(old, part, value));
+    fn write_operand(&mut self, part: Part, value: u64) {
+        self.block_mask = write_part(self.block_mask, part, value) & all_blocks(&self.setup);
     }
 
     fn operate(&mut self, fields: u64) {
-        if alloc_status(&self.setup, self.block_mask.is_empty(), fields) != DONE {
+        if alloc_status(&self.setup, self.block_mask, fields) != DONE {
             return;
         }
         let (rcid, at) = (RCID.get(fields), AT.get(fields));
         match OP.get(fields) {
-            CONFIG_LIMIT => self.masks[self.setup.place(rcid, at)] = self.block_mask.clone(),
-            READ_LIMIT => self.block_mask = self.masks[self.setup.place(rcid, at)].clone(),
+            CONFIG_LIMIT => self.masks[self.setup.place(rcid, at)] = self.block_mask,
+            READ_LIMIT => self.block_mask = self.masks[self.setup.place(rcid, at)],
             _ => self.flush(rcid),
         }
     }
@@ -76,15 +73,13 @@ impl super::Ledger for Ledger {
         match call {
             Call::Fill(fill) => return self.fill(fill, answer.value),
             Call::Evict { unit } => self.evict(*unit as usize),
-            Call::Count { rcid, at } => return self.count(*rcid, *at, answer.value),
             _ => {}
         }
         Ok(())
     }
 
     fn check(&self, state: &State) -> Result<(), String> {
-        let same = state.masks.iter().copied().eq(self.masks.iter().flat_map(Blocks::words));
-        claim(same, || "the table of masks".into())?;
+        claim(state.masks == self.masks, || "the table of masks".into())?;
         let word = |owner: &Option<Fill>| owner.map_or(0, |fill| owner_of(&fill, self.setup.na));
         let same = state.owners.iter().copied().eq(self.owners.iter().map(word));
         claim(same, || "the table of owners".into())?;
@@ -144,23 +139,12 @@ impl Ledger {
         owned
     }
 
-    /// The mask by which a pair may fill.
-    fn mask(&self, rcid: u64, at: u64) -> &Blocks {
-        &self.masks[self.setup.place(rcid, access_type(at, self.setup.na))]
-    }
-
-    /// As many blocks are counted as a fill would be allowed in.
-    fn count(&self, rcid: u64, at: u64, blocks: u64) -> Result<(), String> {
-        let mask = self.mask(rcid, at);
-        let expected = (0..self.setup.ncblks).filter(|&block| mask.has(block)).count() as u64;
-        claim(blocks == expected, || format!("RCID {rcid} AT {at} may fill {blocks} blocks"))
-    }
-
     /// A fill is allowed exactly where the ledger's mask has the unit's block.
     fn fill(&mut self, fill: &Fill, allowed: u64) -> Result<(), String> {
         let fill = Fill { at: access_type(fill.at, self.setup.na), ..*fill };
-        let expected = self.mask(fill.rcid, fill.at).has(self.setup.block_of(fill.unit));
-        claim(allowed == expected as u64, || format!("{fill:?} answered {allowed}"))?;
+        let mask = self.masks[self.setup.place(fill.rcid, fill.at)];
+        let expected = mask >> self.setup.block_of(fill.unit) & 1;
+        claim(allowed == expected, || format!("{fill:?} answered {allowed}"))?;
         if allowed == 1 {
             let (unit, top) = (fill.unit as usize, (1 << self.setup.w) - 1);
             self.evict(unit);
@@ -233,42 +217,6 @@ mod tests {
         let read = Call::Read { size: 4, offset: 32 };
         assert!(ledger.observe(&read, Answer::value(0b1000)).is_ok());
         assert!(ledger.observe(&read, Answer::value(0b1001)).is_err());
-    }
-
-    /// 100 blocks; RCID 1 has block 70 alone.
-    fn wide() -> (State, Ledger) {
-        let setup = Setup { ncblks: 100, ..SETUP };
-        let (mut state, mut ledger) = (State::default(), Ledger::after_reset(&setup));
-        for call in [Call::Reset(setup), write(40, 1 << 6 | 1 << 36), write(24, 0x101)] {
-            make(&mut state, &mut ledger, &call).unwrap();
-        }
-        (state, ledger)
-    }
-
-    #[test]
-    fn each_word_and_half_of_a_wide_mask() {
-        let (mut state, mut ledger) = wide();
-        let mut read = |size, offset, value| {
-            ledger.observe(&Call::Read { size, offset }, Answer::value(value)).is_ok()
-        };
-        assert!(read(8, 40, 1 << 6), "block 100 does not exist");
-        assert!(read(4, 40, 1 << 6) && read(4, 44, 0) && read(8, 32, 0));
-        assert!(!read(8, 32, 1 << 6) && !read(4, 44, 1 << 6) && !read(4, 40, 0));
-        state.masks.swap(4, 5);
-        assert!(ledger.check(&state).is_err(), "the words the other way round");
-    }
-
-    #[test]
-    fn counts_are_the_blocks_that_may_be_filled() {
-        let (_, mut ledger) = wide();
-        let mut count = |rcid, at, blocks| {
-            ledger.observe(&Call::Count { rcid, at }, Answer::value(blocks)).is_ok()
-        };
-        assert!(count(0, 1, 100) && count(1, 0, 1) && count(1, 1, 0));
-        assert!(count(1, 2, 1), "AT 2 of 2 counts as 0");
-        assert!(!count(0, 0, 64) && !count(1, 0, 0) && !count(1, 1, 1));
-        assert!(ledger.observe(&fill(1, 140), Answer::value(1)).is_ok());
-        assert!(ledger.observe(&fill(1, 12), Answer::value(1)).is_err(), "block 6 of word 0");
     }
 
     #[test]

@@ -1,11 +1,13 @@
-//! Accesses of 4 and 8 bytes to the registers.
+//! Accesses of 4 and 8 bytes to the 40 bytes of registers.
 
 /// Where the registers stand; capabilities is at 0.
 pub const MON_CTL: u64 = 8;
 pub const MON_CTR_VAL: u64 = 16;
 pub const ALLOC_CTL: u64 = 24;
-/// bw_alloc of the bandwidth controller, block_mask of the capacity controller; the last register.
+/// bw_alloc of the bandwidth controller, block_mask of the capacity controller.
 pub const OPERAND: u64 = 32;
+/// The first byte beyond the registers.
+pub const END: u64 = 40;
 
 /// The part of a register that an access covers.
 #[derive(Clone, Copy, Debug, PartialEq, Eq)]
@@ -15,13 +17,13 @@ pub enum Part {
     High,
 }
 
-/// Refusals 4 and 5 of an access to registers that end here, or 0.
-pub fn access_refusal(end: u64, size: u64, offset: u64) -> u64 {
+/// Refusals 4 and 5, or 0.
+pub fn access_refusal(size: u64, offset: u64) -> u64 {
     if size != 4 && size != 8 {
         return 4;
     }
-    let ends_beyond = offset as u128 + size as u128 > end as u128;
-    if offset % size != 0 || ends_beyond {
+    let end = offset as u128 + size as u128;
+    if offset % size != 0 || end > END as u128 {
         return 5;
     }
     0
@@ -37,25 +39,19 @@ fn value_refusal(size: u64, value: u64) -> u64 {
 }
 
 /// Refusals 4 to 6 of a write, or 0.
-pub fn write_refusal(end: u64, size: u64, offset: u64, value: u64) -> u64 {
-    match access_refusal(end, size, offset) {
+pub fn write_refusal(size: u64, offset: u64, value: u64) -> u64 {
+    match access_refusal(size, offset) {
         0 => value_refusal(size, value),
         number => number,
     }
 }
 
-/// The first byte of the word that an accepted access falls in; before the operand each register has
-/// one word.
+/// The register that an accepted access falls in.
 pub fn register(offset: u64) -> u64 {
     offset - offset % 8
 }
 
-/// The word of bw_alloc or block_mask that an accepted access falls in, if it does.
-pub fn operand_word(offset: u64) -> Option<usize> {
-    offset.checked_sub(OPERAND).map(|bytes| (bytes / 8) as usize)
-}
-
-/// The part of that word.
+/// The part of that register.
 pub fn part(size: u64, offset: u64) -> Part {
     match (size, offset % 8) {
         (8, _) => Part::Whole,
@@ -64,7 +60,7 @@ pub fn part(size: u64, offset: u64) -> Part {
     }
 }
 
-/// What a read of a part of a word gives.
+/// What a read of a part of a register's word gives.
 pub fn read_part(word: u64, part: Part) -> u64 {
     match part {
         Part::Whole => word,
@@ -74,7 +70,7 @@ pub fn read_part(word: u64, part: Part) -> u64 {
 }
 
 /// What an accepted read gives, by the words of the registers in the order of their offsets.
-pub fn read(words: &[u64], size: u64, offset: u64) -> u64 {
+pub fn read(words: [u64; 5], size: u64, offset: u64) -> u64 {
     read_part(words[(offset / 8) as usize], part(size, offset))
 }
 
@@ -93,32 +89,24 @@ mod tests {
 
     #[test]
     fn sizes_come_before_offsets() {
-        assert_eq!(access_refusal(40, 0, 1), 4);
-        assert_eq!(access_refusal(40, 16, 0), 4);
-        assert_eq!(access_refusal(40, 8, 4), 5);
-        assert_eq!(access_refusal(40, 4, 2), 5);
+        assert_eq!(access_refusal(0, 1), 4);
+        assert_eq!(access_refusal(16, 0), 4);
+        assert_eq!(access_refusal(8, 4), 5);
+        assert_eq!(access_refusal(4, 2), 5);
     }
 
     #[test]
     fn the_last_bytes() {
-        for end in [40, 48, 160] {
-            assert_eq!(access_refusal(end, 8, end - 8), 0);
-            assert_eq!(access_refusal(end, 4, end - 4), 0);
-            assert_eq!(access_refusal(end, 8, end), 5);
-            assert_eq!(access_refusal(end, 4, end), 5);
-        }
+        assert_eq!(access_refusal(8, 32), 0);
+        assert_eq!(access_refusal(4, 36), 0);
+        assert_eq!(access_refusal(8, 40), 5);
+        assert_eq!(access_refusal(4, 40), 5);
     }
 
     #[test]
     fn an_end_beyond_64_bits() {
-        assert_eq!(access_refusal(160, 8, u64::MAX - 7), 5);
-        assert_eq!(access_refusal(160, 4, u64::MAX - 3), 5);
-    }
-
-    #[test]
-    fn words_of_the_operand() {
-        let words = [24, 28, 32, 36, 40, 156].map(operand_word);
-        assert_eq!(words, [None, None, Some(0), Some(0), Some(1), Some(15)]);
+        assert_eq!(access_refusal(8, u64::MAX - 7), 5);
+        assert_eq!(access_refusal(4, u64::MAX - 3), 5);
     }
 
     #[test]

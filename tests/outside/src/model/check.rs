@@ -18,9 +18,6 @@ pub trait Checked: Sized {
     /// Whether every number of a set-up lies in its range.
     fn in_range(setup: &Setup<Self>) -> bool;
 
-    /// The first byte beyond the registers.
-    fn registers_end(setup: &Setup<Self>) -> u64;
-
     /// The lengths of the tables in bytes.
     fn table_lengths(setup: &Setup<Self>) -> Vec<usize>;
 
@@ -33,11 +30,10 @@ pub trait Checked: Sized {
 
     /// Refusals 4 and on, which go by the call's own arguments, or 0.
     fn argument_refusal(&self, call: &Self::Call) -> u64 {
-        let end = || Self::registers_end(self.setup());
         match call.common() {
             Common::Reset(_) => 0,
-            Common::Read { size, offset } => access_refusal(end(), size, offset),
-            Common::Write { size, offset, value } => write_refusal(end(), size, offset, value),
+            Common::Read { size, offset } => access_refusal(size, offset),
+            Common::Write { size, offset, value } => write_refusal(size, offset, value),
             Common::Own => self.own_refusal(call),
         }
     }

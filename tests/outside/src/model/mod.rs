@@ -24,7 +24,7 @@ pub use sizes::Sizes;
 #[derive(Clone, Copy, Debug, PartialEq, Eq, Default)]
 pub struct Answer {
     pub refusal: u64,
-    /// What a read gives, whether a fill is allowed, how many blocks a pair may fill.
+    /// What a read gives, and whether a fill is allowed.
     pub value: u64,
     /// What a request is granted.
     pub grant: Grant,

@@ -9,7 +9,7 @@ pub trait Performs: Checked {
     fn after_reset(setup: &Setup<Self>) -> Self;
 
     /// The words of the registers in the order of their offsets.
-    fn registers(&self) -> Vec<u64>;
+    fn registers(&self) -> [u64; 5];
 
     fn monitor(&mut self) -> Monitor<'_>;
 
@@ -17,8 +17,8 @@ pub trait Performs: Checked {
     /// nothing but alloc_ctl changes.
     fn write_alloc_ctl(&mut self, value: u64);
 
-    /// A write of a word of bw_alloc, which has one, or of block_mask, whole or in part.
-    fn write_operand(&mut self, word: usize, part: Part, value: u64);
+    /// A write of bw_alloc or block_mask, whole or in part.
+    fn write_operand(&mut self, part: Part, value: u64);
 
     /// A call that this controller alone has, and its answer.
     fn own(&mut self, call: &Self::Call) -> Answer;
@@ -32,7 +32,7 @@ pub trait Performs: Checked {
         match call.common() {
             Common::Reset(setup) => *self = Self::after_reset(setup),
             Common::Read { size, offset } => {
-                return Answer::value(access::read(&self.registers(), size, offset));
+                return Answer::value(access::read(self.registers(), size, offset));
             }
             Common::Write { size, offset, value } => self.write(size, offset, value),
             Common::Own => return self.own(call),
@@ -41,11 +41,8 @@ pub trait Performs: Checked {
     }
 
     fn write(&mut self, size: u64, offset: u64, value: u64) {
-        let part = access::part(size, offset);
-        if let Some(word) = access::operand_word(offset) {
-            return self.write_operand(word, part, value);
-        }
-        match (access::register(offset), part) {
+        match (access::register(offset), access::part(size, offset)) {
+            (access::OPERAND, part) => self.write_operand(part, value),
             // a write of a control register's high half alone does nothing
             (_, Part::High) => {}
             (access::MON_CTL, _) => write_mon_ctl(value, self.monitor()),

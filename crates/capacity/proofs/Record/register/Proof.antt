@@ -1,7 +1,6 @@
 -- `capacity::Record::register` meets its contract.
 use borrow.Author.Rules.{rules}
 use mathlib.Core.Path.{refl}
-use native.Mathlib.Omega.{arith}
 use borrow.Author.Tests.{ne_eqb}
 use Rattle.capacity_model.specs.Model.{register}
 use Rattle.capacity.proofs.Record.register.Statement.{statement}
@@ -23,19 +22,13 @@ returns-4 : tie.Need-returns-4
 unfolding register
 returns-4 c = λ ms ns es os. rw c.match.keys4 refl
 
-sub-mask-word : tie.Need-overflow-sub-mask-word
-sub-mask-word c =
-    let r = c.before.match.rest in
-    omega (arith, r.0.0.0.1, r.0.0.1, r.0.1, r.1)
-
 returns-5 : tie.Need-returns-5
 unfolding register
 returns-5 c =
     λ ms ns es os.
-    let n = c.before.before.before.before.args.n in
-    let r = c.before.before.match.rest in
-    rw (ne_eqb n 0 r.0.0.0.1, ne_eqb n 1 r.0.0.1, ne_eqb n 2 r.0.1, ne_eqb n 3 r.1) c.mask_word.ensures
+    let n = c.before.args.n in
+    let r = c.match.rest in
+    rw (ne_eqb n 0 r.0.0.0.1, ne_eqb n 1 r.0.0.1, ne_eqb n 2 r.0.1, ne_eqb n 3 r.1) refl
 
 pub register-spec : {M : Type 1} → statement M
-register-spec =
-    tie.close (tie.spec (λ c κs. search rules) (λ c. search rules) sub-mask-word (λ c κs. search rules) returns returns-2 returns-3 returns-4 returns-5)
+register-spec = tie.close (tie.spec (λ c κs. search rules) returns returns-2 returns-3 returns-4 returns-5)

@@ -1,21 +1,15 @@
 -- `capacity::Record::reset` meets its contract.
-use mathlib.Core.Path.{◌≡◌, refl, sym, ap, ◌∙◌}
+use mathlib.Core.Path.{sym, ap, ◌∙◌}
 use mathlib.Core.List.{List}
 use Prim.Native.Nat.{ℕ}
 use lib.ListN.{replicate}
 use borrow.Author.Rules.{rules}
-use Rattle.numbers.specs.Numbers.{value, number_in}
 use Rattle.access.specs.View.{verdict_of}
 use Rattle.capacity_model.proofs.Setup.{ranges}
 use Rattle.capacity.proofs.Checks.{setup_passed, lengths_passed}
 use Rattle.capacity.proofs.Calls.{reset_refused, reset_performed}
 use Rattle.capacity.proofs.Record.reset.Statement.{statement}
 use Rattle.capacity.proofs.Record.reset.Tie as tie
-
--- block_mask is 0
-no_mask : number_in (replicate 16 0) ≡ 0
-unfolding number_in value
-no_mask = refl
 
 reset-masks-requires : tie.Need-reset-masks-requires
 reset-masks-requires c κs =
@@ -31,8 +25,8 @@ returns-2 c =
     let e = sym (ap verdict_of v.enum_told.given.1) ∙ v.before.before.check-setup.ensures in
     let z = lengths_passed _ _ e in
     let zeros : ℕ → List ℕ = λ n. replicate n 0 in
-    rw no_mask (reset_performed _ _ e _ _ _ _ c.before.before.before.before.before.before.before.before.before.before.before.before.before.before.reset-masks.ensures (c.before.before.before.before.before.before.before.before.before.before.fill64.ensures ∙ ap zeros z.counters_long) (c.before.before.before.before.before.before.fill16.ensures ∙ ap zeros z.events_long)
-    (c.before.before.fill32.ensures ∙ ap zeros z.owners_long))
+    reset_performed _ _ e _ _ _ _ c.before.before.before.before.before.before.before.before.before.before.before.before.before.before.reset-masks.ensures (c.before.before.before.before.before.before.before.before.before.before.fill64.ensures ∙ ap zeros z.counters_long) (c.before.before.before.before.before.before.fill16.ensures ∙ ap zeros z.events_long)
+    (c.before.before.fill32.ensures ∙ ap zeros z.owners_long)
 
 pub reset-spec : {M : Type 1} → statement M
 reset-spec =

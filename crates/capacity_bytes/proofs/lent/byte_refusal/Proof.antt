@@ -1,6 +1,5 @@
 -- `capacity_bytes::lent::byte_refusal` meets its contract.
 use mathlib.Core.Path.{sym, ◌∙◌}
-use native.Mathlib.Nat.{mul-le-mul}
 use native.Mathlib.Omega.{arith}
 use borrow.Author.Rules.{rules}
 use Rattle.tables.proofs.Tests.{of_true}
@@ -12,33 +11,23 @@ use Rattle.capacity_bytes.proofs.Lengths.{wrong_record, wrong_setup, wrong_lengt
 use Rattle.capacity_bytes.proofs.lent.byte_refusal.Statement.{statement}
 use Rattle.capacity_bytes.proofs.lent.byte_refusal.Tie as tie
 
--- the set-up is in range
-ranged : (c : tie.Then2) → Ranges (setup_of c.before.before.before.before.before.before.before.before.args.setup)
-ranged c = ranges _ (of_true (sym c.before.in-range.ensures ∙ c.if2.true))
-
 returns : tie.Need-returns
 returns c = wrong_record _ _ c.if1.true
 
 pairs-requires : tie.Need-pairs-requires
-pairs-requires c κs = ranged c
-
-mask-words-requires : tie.Need-mask-words-requires
-mask-words-requires c κs = ranged c.before
-
-mul_words : tie.Need-overflow-mul-words
-mul_words c = record { fits = omega (arith, mul-le-mul c.before.pairs.ensures.small c.mask-words.ensures.1.1) }
+pairs-requires c κs = ranges _ (of_true (sym c.before.in-range.ensures ∙ c.if2.true))
 
 unit-count-requires : tie.Need-unit-count-requires
-unit-count-requires c κs = ranged c.before.before
+unit-count-requires c κs = ranges _ (of_true (sym c.before.before.in-range.ensures ∙ c.before.if2.true))
 
 mul_fit : tie.Need-overflow-mul-fit
-mul_fit c = record { fits = omega (arith, mul-le-mul c.before.before.pairs.ensures.small c.before.mask-words.ensures.1.1) }
+mul_fit c = record { fits = omega (arith, c.before.pairs.ensures.small) }
 
 mul-fit-2 : tie.Need-overflow-mul-fit-2
-mul-fit-2 c = record { fits = omega (arith, (ranged c.before.before.before).nm_high) }
+mul-fit-2 c = let r : Ranges (setup_of _) = ranges _ (of_true (sym c.before.before.before.in-range.ensures ∙ c.before.before.if2.true)) in record { fits = omega (arith, r.nm_high) }
 
 mul-fit-3 : tie.Need-overflow-mul-fit-3
-mul-fit-3 c = record { fits = omega (arith, (ranged c.before.before.before).nm_high) }
+mul-fit-3 c = let r : Ranges (setup_of _) = ranges _ (of_true (sym c.before.before.before.in-range.ensures ∙ c.before.before.if2.true)) in record { fits = omega (arith, r.nm_high) }
 
 mul-fit-4 : tie.Need-overflow-mul-fit-4
 mul-fit-4 c = record { fits = omega (arith, c.unit-count.ensures.small) }
@@ -47,8 +36,7 @@ returns-2 : tie.Need-returns-2
 unfolding bytes_fit
 returns-2 c =
     c.pick.ensures
-    ∙ rw (c.before.before.before.pairs.ensures.is, c.before.before.mask-words.ensures.0, c.before.unit-count.ensures.is)
-    (wrong_lengths _ _ c.before.before.before.before.before.before.if1.false (sym c.before.before.before.before.before.in-range.ensures ∙ c.before.before.before.before.if2.true))
+    ∙ rw (c.before.before.pairs.ensures.is, c.before.unit-count.ensures.is) (wrong_lengths _ _ c.before.before.before.before.before.if1.false (sym c.before.before.before.before.in-range.ensures ∙ c.before.before.before.if2.true))
 
 returns-3 : tie.Need-returns-3
 returns-3 c = wrong_setup _ _ c.before.before.if1.false (sym c.before.in-range.ensures ∙ c.if2.false)
@@ -56,4 +44,4 @@ returns-3 c = wrong_setup _ _ c.before.before.if1.false (sym c.before.in-range.e
 pub byte-refusal-spec : {M : Type 1} → statement M
 byte-refusal-spec =
     tie.close
-    (tie.spec returns (λ c κs. search rules) pairs-requires mask-words-requires mul_words unit-count-requires mul_fit mul-fit-2 mul-fit-3 mul-fit-4 (λ c κs. search rules) returns-2 returns-3)
+    (tie.spec returns (λ c κs. search rules) pairs-requires unit-count-requires mul_fit mul-fit-2 mul-fit-3 mul-fit-4 (λ c κs. search rules) returns-2 returns-3)

@@ -1,8 +1,6 @@
 -- `capacity_bytes::reset::reset` meets its contract.
 use borrow.Author.Rules.{rules}
-use mathlib.Core.Path.{◌≡◌, refl, sym, ◌∙◌}
-use lib.ListN.{replicate}
-use Rattle.numbers.specs.Numbers.{value, number_in}
+use mathlib.Core.Path.{sym, ◌∙◌}
 use Rattle.capacity_model.proofs.Setup.{ranges}
 use Rattle.capacity_bytes.proofs.Lengths.{in_range, long}
 use Rattle.capacity_bytes.proofs.Resets.{reset_refused, reset_bytes}
@@ -20,15 +18,10 @@ reset-masks-requires c κs =
     let z = sym c.before.before.before.before.before.before.byte-refusal.ensures ∙ c.before.before.before.before.before.if1.false in
     (ranges _ (in_range _ _ z), (long _ _ z).masks_long)
 
--- block_mask is 0
-no_mask : number_in (replicate 16 0) ≡ 0
-unfolding number_in value
-no_mask = refl
-
 returns-2 : tie.Need-returns-2
 returns-2 c =
     let z = sym c.before.before.before.before.before.before.before.before.before.before.before.before.before.before.before.before.before.before.before.before.before.byte-refusal.ensures ∙ c.before.before.before.before.before.before.before.before.before.before.before.before.before.before.before.before.before.before.before.before.if1.false in
-    reset_bytes _ _ z _ _ _ _ _ (rw no_mask at c.before.before.before.before.before.before.before.before.before.before.before.before.before.before.before.before.before.before.store-record.ensures) c.before.before.before.before.before.before.before.before.before.before.before.before.before.before.reset-masks.ensures c.before.before.before.before.before.before.before.before.before.before.clear8.ensures c.before.before.before.before.before.before.clear82.ensures c.before.before.clear83.ensures
+    reset_bytes _ _ z _ _ _ _ _ c.before.before.before.before.before.before.before.before.before.before.before.before.before.before.before.before.before.before.store-record.ensures c.before.before.before.before.before.before.before.before.before.before.before.before.before.before.reset-masks.ensures c.before.before.before.before.before.before.before.before.before.before.clear8.ensures c.before.before.before.before.before.before.clear82.ensures c.before.before.clear83.ensures
 
 pub reset-spec : {M : Type 1} → statement M
 reset-spec =

@@ -1,13 +1,10 @@
 //! What a run shows of units: filled, refilled, evicted, flushed, badly formed.
 
 use super::super::{lone_fault, lone_required, shown_of, Labels};
-use crate::model::access_type;
 use crate::model::capacity::owners::{AT, MCID, OWNED, RCID};
 use crate::model::capacity::{counted, Fill, State};
 use crate::model::registers::{self, DONE, FLUSH_RCID, OP, STATUS};
-
-/// A unit beyond those that masks of one word have.
-const HIGH: u64 = 4_096;
+use crate::model::{access_type, Sizes};
 
 const FREE: &str = "fill of a free unit";
 const OTHER_MCID: &str = "fill over a unit of another MCID";
@@ -16,7 +13,6 @@ const SAME_MCID_OTHER_AT: &str = "fill over a unit of the same MCID and another 
 const OTHER_RCID: &str = "fill over a unit of another RCID";
 const UNKNOWN_AT: &str = "fill with an AT at or above NA";
 const LAST_UNIT: &str = "fill of the last of several units";
-const HIGH_UNIT: &str = "fill of a unit at or above 4,096";
 const END_OF_BLOCK: &str = "fill of a block's last unit, the next block not allowed";
 const AFTER_FLUSH: &str = "fill by an RCID just flushed";
 const NOT_ALLOWED_FREE: &str = "fill not allowed of a free unit";
@@ -28,8 +24,9 @@ pub fn fill(before: &State, fill: &Fill, allowed: bool) -> Labels {
     let setup = &before.record.setup;
     let owner = before.owners[fill.unit as usize] as u64;
     let at = access_type(fill.at, setup.na);
+    let mask = before.masks[setup.place(fill.rcid, at)];
     let next = setup.block_of(fill.unit) + 1;
-    let next_allowed = next < setup.ncblks && before.mask(fill.rcid, at).has(next);
+    let next_allowed = next < setup.ncblks && mask >> next & 1 == 1;
     let at_end = setup.u > 1 && (fill.unit + 1) % setup.u == 0 && next < setup.ncblks;
     let (is_free, same_mcid) = (owner == 0, MCID.get(owner) == fill.mcid);
     if !allowed {
@@ -47,7 +44,6 @@ pub fn fill(before: &State, fill: &Fill, allowed: bool) -> Labels {
         (OTHER_RCID, !is_free && RCID.get(owner) != fill.rcid),
         (UNKNOWN_AT, fill.at >= setup.na),
         (LAST_UNIT, setup.units() > 1 && fill.unit + 1 == setup.units()),
-        (HIGH_UNIT, fill.unit >= HIGH),
         (END_OF_BLOCK, at_end && !next_allowed),
         (AFTER_FLUSH, flushed(before) == Some(fill.rcid)),
     ])
@@ -63,7 +59,6 @@ fn flushed(state: &State) -> Option<u64> {
 const EVICTED: &str = "eviction of an owned unit";
 const EVICTED_FREE: &str = "eviction of a free unit";
 const EVICTED_LAST: &str = "eviction of the last of several units";
-const EVICTED_HIGH: &str = "eviction of an owned unit at or above 4,096";
 const EVICTED_UNCOUNTED: &str = "eviction of a unit that is not counted";
 
 pub fn evict(before: &State, unit: u64) -> Labels {
@@ -73,7 +68,6 @@ pub fn evict(before: &State, unit: u64) -> Labels {
         (EVICTED, owner != 0),
         (EVICTED_FREE, owner == 0),
         (EVICTED_LAST, owner != 0 && units > 1 && unit + 1 == units),
-        (EVICTED_HIGH, owner != 0 && unit >= HIGH),
         (EVICTED_UNCOUNTED, owner != 0 && !is_counted(before, owner)),
     ])
 }
@@ -90,7 +84,6 @@ const NONE: &str = "flush of no unit";
 const ONE: &str = "flush of one unit";
 const SEVERAL: &str = "flush of several units";
 const MANY: &str = "flush of more than 256 units";
-const FLUSHED_HIGH: &str = "flush of a unit at or above 4,096";
 const EVERY: &str = "flush of every unit of several";
 const OTHERS_LEFT: &str = "flush beside units of other RCIDs";
 const FLUSHED_UNKNOWN_AT: &str = "flush with an AT at or above NA";
@@ -121,11 +114,10 @@ pub fn flush(before: &State, after: &State) -> Labels {
         (ONE, emptied.len() == 1),
         (SEVERAL, emptied.len() > 1),
         (MANY, emptied.len() > 256),
-        (FLUSHED_HIGH, changed_from(HIGH, before, after)),
         (EVERY, emptied.len() > 1 && emptied.len() == before.owners.len()),
         (OTHERS_LEFT, !emptied.is_empty() && !left.is_empty()),
         (FLUSHED_UNKNOWN_AT, registers::AT.get(word) >= after.record.setup.na),
-        (EMPTY_MASK, before.record.block_mask.is_empty()),
+        (EMPTY_MASK, before.record.block_mask == 0),
         (SEVERAL_ATS, (0..8).filter(|&at| ats(at)).count() > 1),
         (SEVERAL_MCIDS, changed.count() > 1),
         (COUNTED, any),
@@ -134,13 +126,7 @@ pub fn flush(before: &State, after: &State) -> Labels {
     ])
 }
 
-/// Whether the owner of some unit from this one on changed.
-fn changed_from(unit: u64, before: &State, after: &State) -> bool {
-    let owners = before.owners.iter().zip(&after.owners);
-    owners.skip(unit as usize).any(|(old, new)| old != new)
-}
-
-const LABELS: [&str; 35] = [
+const LABELS: [&str; 31] = [
     FREE,
     OTHER_MCID,
     SAME_MCID,
@@ -148,7 +134,6 @@ const LABELS: [&str; 35] = [
     OTHER_RCID,
     UNKNOWN_AT,
     LAST_UNIT,
-    HIGH_UNIT,
     END_OF_BLOCK,
     AFTER_FLUSH,
     NOT_ALLOWED_FREE,
@@ -157,7 +142,6 @@ const LABELS: [&str; 35] = [
     EVICTED,
     EVICTED_FREE,
     EVICTED_LAST,
-    EVICTED_HIGH,
     EVICTED_UNCOUNTED,
     UNKNOWN_RCID,
     UNKNOWN_RCID_OWNER,
@@ -165,7 +149,6 @@ const LABELS: [&str; 35] = [
     ONE,
     SEVERAL,
     MANY,
-    FLUSHED_HIGH,
     EVERY,
     OTHERS_LEFT,
     FLUSHED_UNKNOWN_AT,
@@ -175,14 +158,11 @@ const LABELS: [&str; 35] = [
     COUNTED,
     UNCOUNTED,
     BOTH,
-    FAULT_HIGH,
 ];
 
 /// What is wrong with a word of owners.
 const FAULTS: [&str; 5] =
     ["not owned", "an unknown RCID", "an unknown MCID", "an unknown AT", "a bit above 19"];
-
-const FAULT_HIGH: &str = "refused 3 for an owner, the first at or above 4,096";
 
 pub fn fault(state: &State) -> Labels {
     let setup = &state.record.setup;
@@ -197,9 +177,7 @@ pub fn fault(state: &State) -> Labels {
         ]
     };
     let words: Vec<[bool; 5]> = state.owners.iter().map(wrong).collect();
-    let first = words.iter().position(|word| word.contains(&true));
-    let is_high = matches!(first, Some(unit) if unit as u64 >= HIGH);
-    [shown_of(&[(FAULT_HIGH, is_high)]), lone_fault("an owner", FAULTS, &words)].concat()
+    lone_fault("an owner", FAULTS, &words)
 }
 
 pub fn required() -> Labels {

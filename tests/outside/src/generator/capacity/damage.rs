@@ -4,23 +4,19 @@ use super::super::common::{damaged_counter, damaged_event, damaged_setup, flippe
 use super::super::{Change, Random};
 use crate::model::capacity::owners::{AT, MCID, OWNED, RCID};
 use crate::model::capacity::slices::*;
-use crate::model::capacity::{all_blocks, Setup, State, LAST_EVENT, MOST_WORDS};
+use crate::model::capacity::{all_blocks, Setup, State, LAST_EVENT};
 use crate::model::Sizes;
 
 /// A flipped bit, or a word overwritten with a value at the end of what is allowed there.
 pub fn damage(random: &mut Random, state: &State, lengths: &[usize]) -> Change {
     let setup = &state.record.setup;
-    // a mask of several words may be checked word by word
-    let masks_alone = setup.mask_words() > 1 && random.percent(50);
-    match random.below(if masks_alone { 3 } else { 11 }) {
-        0 => block_mask(random, setup),
-        1 => mask(random, setup),
-        2 if masks_alone => mask(random, setup),
-        2 => register_word(random),
-        3 | 4 => flipped_bit(random, lengths),
-        5 => setup_word(random, setup),
-        6 => damaged_counter(random, COUNTERS, setup, 62, 1 << 63),
-        7 => damaged_event(random, EVENTS, setup, LAST_EVENT),
+    match random.below(9) {
+        0 | 1 => flipped_bit(random, lengths),
+        2 => setup_word(random, setup),
+        3 => register_word(random, setup),
+        4 => mask(random, setup),
+        5 => damaged_counter(random, COUNTERS, setup, 62, 1 << 63),
+        6 => damaged_event(random, EVENTS, setup, LAST_EVENT),
         _ => owner(random, state),
     }
 }
@@ -29,7 +25,7 @@ pub fn damage(random: &mut Random, state: &State, lengths: &[usize]) -> Change {
 fn setup_word(random: &mut Random, setup: &Setup) -> Change {
     let index = random.below(6) as usize;
     let values = match index {
-        0 => vec![0, 1, setup.ncblks - 1, setup.ncblks + 1, 64, 65, 1_024, 1_025],
+        0 => vec![0, 1, setup.ncblks - 1, setup.ncblks + 1, 64, 65],
         1 => vec![0, 1, setup.na, 256, 257],
         2 => vec![0, 1, setup.nr, 8, 9],
         3 => vec![0, 1, 256, 257],
@@ -39,50 +35,28 @@ fn setup_word(random: &mut Random, setup: &Setup) -> Change {
     damaged_setup(random, index, &values)
 }
 
-/// mon_ctl, mon_ctr_val or alloc_ctl.
-fn register_word(random: &mut Random) -> Change {
-    let value = match random.below(3) {
-        0 => 1 << random.below(64),
-        1 => random.next() & 0x7F_1FFF_FFFF,
+fn register_word(random: &mut Random, setup: &Setup) -> Change {
+    let index = random.between(6, 9) as usize;
+    let value = match (index, random.below(3)) {
+        (9, 0) => all_blocks(setup),
+        (9, 1) => all_blocks(setup).wrapping_add(1),
+        (_, 0) => 1 << random.below(64),
+        (_, 1) => random.next() & 0x7F_1FFF_FFFF,
         _ => random.number(),
     };
-    Change::word(RECORD, 8, random.between(6, 8) as usize, value)
+    Change::word(RECORD, 8, index, value)
 }
 
-/// The place of block_mask in the record.
-const BLOCK_MASK: usize = 9;
-
-/// A word of block_mask, often its last one, or one beyond it.
-fn block_mask(random: &mut Random, setup: &Setup) -> Change {
-    let words = setup.mask_words();
-    let any = random.below(MOST_WORDS as u64) as usize;
-    let word = random.pick(&[words - 1, words - 1, words, MOST_WORDS - 1, any]);
-    let word = word.min(MOST_WORDS - 1);
-    Change::word(RECORD, 8, BLOCK_MASK + word, mask_word(random, setup, word))
-}
-
-/// A word of the table, often the last one of a mask.
 fn mask(random: &mut Random, setup: &Setup) -> Change {
-    let words = setup.mask_words();
-    let any = random.below(words as u64) as usize;
-    let word = random.pick(&[words - 1, words - 1, any]);
-    let place = random.place(setup.pairs() as u64) * words + word;
-    Change::word(MASKS, 8, place, mask_word(random, setup, word))
-}
-
-/// A word of a mask: no block, all that exist there, the first that does not, or any bits.
-fn mask_word(random: &mut Random, setup: &Setup, word: usize) -> u64 {
-    let blocks = all_blocks(setup).0[word];
-    match random.below(5) {
+    let blocks = all_blocks(setup);
+    let value = match random.below(5) {
         0 => 0,
         1 => blocks,
         2 => blocks.wrapping_add(1),
         3 => random.next() & blocks,
-        _ => {
-            let any = random.below(64);
-            1 << random.pick(&[any, any, 63])
-        }
-    }
+        _ => 1 << random.below(64),
+    };
+    Change::word(MASKS, 8, random.place(setup.pairs() as u64), value)
 }
 
 /// A word of owners: at the ends of what a fill stores, or just beyond in one field.

@@ -32,10 +32,9 @@ fn any_state(random: &mut Random, setup: &Setup) -> State {
         mon_ctl: any_mon_ctl(random, setup.na),
         mon_ctr_val: random.number(),
         alloc_ctl: any_alloc_ctl(random, setup.na),
-        block_mask: any_mask(random, setup).and(&blocks),
+        block_mask: any_mask(random, setup) & blocks,
     };
-    let words = |_| any_mask(random, setup).and(&blocks).0.into_iter().take(setup.mask_words());
-    let masks = (0..setup.pairs()).flat_map(words).collect();
+    let masks = (0..setup.pairs()).map(|_| any_mask(random, setup) & blocks).collect();
     let counters = any_counters(random, setup, 1 << 63);
     let events = any_events(random, setup, LAST_EVENT);
     State { record, masks, counters, events, owners: any_owners(random, setup) }

@@ -1,26 +1,11 @@
-//! Fills, evictions and flushes, each chosen for the units that those before it leave; and counts of
-//! blocks.
+//! Fills, evictions and flushes, each chosen for the units that those before it leave.
 
 use super::super::common::{self, Write};
 use super::super::{planned, Random, Step};
-use super::masks::any_count;
 use super::Steps;
-use crate::model::capacity::{owners, Call, Fill, Mask, Setup, State};
+use crate::model::capacity::{owners, Call, Fill, Setup, State};
 use crate::model::registers::FLUSH_RCID;
-
-/// As many units as masks of one word can have.
-pub const FEW: u64 = 4_096;
-
-/// A fill of a unit beyond these by RCID 0, which may be allowed, and its end by an eviction or a flush.
-pub fn high_unit(random: &mut Random, setup: &Setup) -> Steps {
-    let unit = random.between(FEW, setup.units() - 1);
-    let fill = Call::Fill(Fill { rcid: 0, unit, ..any_fill(random, setup) });
-    let end = match random.below(2) {
-        0 => Step::Call(Call::Evict { unit }),
-        _ => Step::write(common::alloc_ctl(random, FLUSH_RCID, 0, 0)),
-    };
-    vec![Step::Call(fill), end]
-}
+use crate::model::Sizes;
 
 /// One of the first units, any one, or at times one that does not exist.
 pub fn any_unit(random: &mut Random, setup: &Setup) -> u64 {
@@ -44,21 +29,20 @@ pub fn any_flush(random: &mut Random, setup: &Setup) -> Write {
     common::alloc_ctl(random, FLUSH_RCID, rcid, at)
 }
 
-/// Fills and evictions, and at times a flush or a count.
+/// Fills and evictions, and at times a flush.
 pub fn units(random: &mut Random, state: &State) -> Steps {
     planned(random, state, next)
 }
 
 fn next(random: &mut Random, state: &State) -> Steps {
     let setup = &state.record.setup;
-    match random.below(13) {
+    match random.below(12) {
         0..=4 => vec![Step::Call(Call::Fill(likely_fill(random, state)))],
         5 => vec![Step::Call(Call::Fill(any_fill(random, setup)))],
         6 | 7 => vec![Step::Call(Call::Evict { unit: some_owned_unit(random, state) })],
         8 => vec![Step::Call(Call::Evict { unit: any_unit(random, setup) })],
         9 => many_fills(random, state),
         10 => vec![Step::write(likely_flush(random, state))],
-        11 => vec![Step::Call(any_count(random, setup))],
         _ => flush_and_refill(random, state),
     }
 }
@@ -80,36 +64,23 @@ fn some_owner(random: &mut Random, state: &State) -> u64 {
 }
 
 /// A pair with some blocks, if a few tries find one, and a unit that is owned, or stands at an end of
-/// a block that the pair has, or of any.
+/// a block.
 fn likely_fill(random: &mut Random, state: &State) -> Fill {
     let setup = &state.record.setup;
     let (mut rcid, mut at) = (0, 0);
     for _ in 0..4 {
         (rcid, at) = (random.below(setup.nr), random.below(setup.na));
-        if !state.mask(rcid, at).is_empty() {
+        if state.masks[setup.place(rcid, at)] != 0 {
             break;
         }
     }
-    let block = some_block(random, setup, &state.mask(rcid, at));
-    let first = block * setup.u;
+    let first = random.below(setup.ncblks) * setup.u;
     let ends = random.pick(&[first, first + setup.u - 1]);
     let (owned, any) = (some_owned_unit(random, state), any_unit(random, setup));
     let unit = random.pick(&[owned, owned, ends, any]);
     let mcids = random.pick(&[setup.nm.min(2), setup.nm]);
     let mcid = random.below(mcids);
     Fill { rcid, mcid, at, unit }
-}
-
-/// A block that the mask has, one at the same bit of another word, or any.
-fn some_block(random: &mut Random, setup: &Setup, mask: &Mask) -> u64 {
-    let any = random.below(setup.ncblks);
-    let blocks: Vec<u64> = (0..setup.ncblks).filter(|&block| mask.has(block)).collect();
-    if blocks.is_empty() {
-        return any;
-    }
-    let known = random.pick(&blocks);
-    let same_bit = known % 64 + 64 * random.below(setup.mask_words() as u64);
-    random.pick(&[any, known, same_bit.min(setup.ncblks - 1)])
 }
 
 /// Fills of neighbouring units by RCIDs that may fill them or not.

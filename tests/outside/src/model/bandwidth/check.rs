@@ -32,10 +32,6 @@ impl Checked for State {
             && (1..=65_536).contains(&setup.q)
     }
 
-    fn registers_end(_setup: &Setup) -> u64 {
-        40
-    }
-
     /// The lengths of active, configured, used, counters, events and waiters in bytes.
     fn table_lengths(setup: &Setup) -> Vec<usize> {
         let words = 4 * setup.pairs();

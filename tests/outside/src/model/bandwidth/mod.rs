@@ -115,9 +115,9 @@ impl Performs for State {
         reset::after_reset(setup)
     }
 
-    fn registers(&self) -> Vec<u64> {
+    fn registers(&self) -> [u64; 5] {
         let Record { setup, mon_ctl, mon_ctr_val, alloc_ctl, bw_alloc, .. } = self.record;
-        vec![capabilities(&setup), mon_ctl, mon_ctr_val, alloc_ctl, bw_alloc]
+        [capabilities(&setup), mon_ctl, mon_ctr_val, alloc_ctl, bw_alloc]
     }
 
     fn monitor(&mut self) -> Monitor<'_> {
@@ -132,7 +132,7 @@ impl Performs for State {
     }
 
     /// No field lies in the high half.
-    fn write_operand(&mut self, _word: usize, part: Part, value: u64) {
+    fn write_operand(&mut self, part: Part, value: u64) {
         if part != Part::High {
             self.record.bw_alloc = settings::named_bits(value);
         }

@@ -4,7 +4,6 @@ use super::limits::all_blocks;
 use super::owners::owner_well_formed;
 use super::units::CTR;
 use super::{Call, Fill, Record, Setup, State, LAST_EVENT};
-use crate::model::access::OPERAND;
 use crate::model::check::Checked;
 use crate::model::monitor::monitor_fault;
 use crate::model::registers::{alloc_ctl_well_formed, mon_ctl_well_formed};
@@ -13,25 +12,21 @@ use crate::model::Sizes;
 impl Checked for State {
     type Call = Call;
 
-    /// 25 words.
-    const RECORD_LENGTH: usize = 200;
+    /// 10 words.
+    const RECORD_LENGTH: usize = 80;
 
     fn setup(&self) -> &Setup {
         &self.record.setup
     }
 
     fn in_range(setup: &Setup) -> bool {
-        setup.sizes_in_range() && (1..=1_024).contains(&setup.ncblks) && (1..=64).contains(&setup.u)
-    }
-
-    fn registers_end(setup: &Setup) -> u64 {
-        OPERAND + setup.bmw() / 8
+        setup.sizes_in_range() && (1..=64).contains(&setup.ncblks) && (1..=64).contains(&setup.u)
     }
 
     /// The lengths of masks, counters, events and owners in bytes.
     fn table_lengths(setup: &Setup) -> Vec<usize> {
-        let (nm, mask) = (setup.nm as usize, 8 * setup.mask_words());
-        vec![mask * setup.pairs(), 8 * nm, 2 * nm, 4 * setup.units() as usize]
+        let nm = setup.nm as usize;
+        vec![8 * setup.pairs(), 8 * nm, 2 * nm, 4 * setup.units() as usize]
     }
 
     /// A mask of 0 is a pair that was never set.
@@ -40,9 +35,7 @@ impl Checked for State {
         let blocks = all_blocks(setup);
         if !registers_well_formed(&self.record) {
             Some("a register")
-        } else if !blocks.covers(&self.record.block_mask.0) {
-            Some("block_mask")
-        } else if !self.masks.chunks(setup.mask_words()).all(|mask| blocks.covers(mask)) {
+        } else if self.masks.iter().any(|&mask| mask & !blocks != 0) {
             Some("a mask")
         } else if !self.owners.iter().all(|&word| owner_well_formed(setup, word)) {
             Some("an owner")
@@ -55,16 +48,16 @@ impl Checked for State {
         let setup = &self.record.setup;
         match call {
             Call::Fill(fill) if fill.rcid >= setup.nr || fill.mcid >= setup.nm => 7,
-            Call::Count { rcid, .. } if *rcid >= setup.nr => 7,
             Call::Fill(Fill { unit, .. }) | Call::Evict { unit } if *unit >= setup.units() => 8,
             _ => 0,
         }
     }
 }
 
-/// The registers before block_mask. Every bit of mon_ctr_val is in one of its fields, so any word is
-/// well formed there.
+/// Every bit of mon_ctr_val is in one of its fields, so any word is well formed there.
 fn registers_well_formed(record: &Record) -> bool {
     let na = record.setup.na;
-    alloc_ctl_well_formed(record.alloc_ctl, na) && mon_ctl_well_formed(record.mon_ctl, na)
+    alloc_ctl_well_formed(record.alloc_ctl, na)
+        && mon_ctl_well_formed(record.mon_ctl, na)
+        && record.block_mask & !all_blocks(&record.setup) == 0
 }

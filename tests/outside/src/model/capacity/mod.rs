@@ -2,18 +2,16 @@
 
 mod check;
 mod limits;
-mod mask;
 pub mod owners;
 mod units;
 
-pub use limits::{all_blocks, alloc_status};
-pub use mask::{Mask, MOST_WORDS};
+pub use limits::{all_blocks, alloc_status, first_masks};
 pub use units::{counted, CTR, INVALID};
 
 use super::access::{write_part, Part};
 use super::monitor::Monitor;
 use super::registers::VERSION;
-use super::{access_type, Answer, Performs, Sizes};
+use super::{Answer, Performs};
 
 /// Capacity events: 0 none, 1 occupancy.
 pub const LAST_EVENT: u64 = 1;
@@ -43,16 +41,6 @@ pub struct Setup {
 super::sizes::common!(Setup, Call);
 
 impl Setup {
-    /// BMW, the bits of a mask: NCBLKS rounded up to a multiple of 64.
-    pub fn bmw(&self) -> u64 {
-        (self.ncblks + 63) / 64 * 64
-    }
-
-    /// The words of a mask.
-    pub fn mask_words(&self) -> usize {
-        (self.bmw() / 64) as usize
-    }
-
     /// The number of units.
     pub fn units(&self) -> u64 {
         self.ncblks * self.u
@@ -70,43 +58,18 @@ pub struct Record {
     pub mon_ctl: u64,
     pub mon_ctr_val: u64,
     pub alloc_ctl: u64,
-    pub block_mask: Mask,
+    pub block_mask: u64,
 }
 
 /// The record and the lent tables.
 #[derive(Clone, Debug, PartialEq, Eq, Default)]
 pub struct State {
     pub record: Record,
-    /// The words of each pair's mask side by side.
     pub masks: Vec<u64>,
     pub counters: Vec<u64>,
     pub events: Vec<u16>,
     /// The owner of each unit.
     pub owners: Vec<u32>,
-}
-
-impl State {
-    /// The places of a pair's mask in the table.
-    fn places(&self, rcid: u64, at: u64) -> std::ops::Range<usize> {
-        let setup = &self.record.setup;
-        let (first, words) = (setup.place(rcid, at), setup.mask_words());
-        first * words..(first + 1) * words
-    }
-
-    pub fn mask(&self, rcid: u64, at: u64) -> Mask {
-        Mask::of(&self.masks[self.places(rcid, at)])
-    }
-
-    /// The mask that a fill goes by: an access type that does not exist counts as 0.
-    pub fn fill_mask(&self, rcid: u64, at: u64) -> Mask {
-        self.mask(rcid, access_type(at, self.record.setup.na))
-    }
-
-    fn set_mask(&mut self, rcid: u64, at: u64, mask: &Mask) {
-        let places = self.places(rcid, at);
-        let words = places.len();
-        self.masks[places].copy_from_slice(&mask.0[..words]);
-    }
 }
 
 /// One call with its arguments. Evict is the paper's emptying (rule E3).
@@ -117,7 +80,6 @@ pub enum Call {
     Write { size: u64, offset: u64, value: u64 },
     Fill(Fill),
     Evict { unit: u64 },
-    Count { rcid: u64, at: u64 },
 }
 
 #[derive(Clone, Copy, Debug, PartialEq, Eq)]
@@ -131,22 +93,18 @@ pub struct Fill {
 impl Performs for State {
     /// RCID 0 has every block for each AT; all else is 0, and every unit free.
     fn after_reset(setup: &Setup) -> State {
-        let mut state = State {
+        State {
             record: Record { setup: *setup, ..Record::default() },
-            masks: vec![0; setup.pairs() * setup.mask_words()],
+            masks: first_masks(setup),
             counters: vec![0; setup.nm as usize],
             events: vec![0; setup.nm as usize],
             owners: vec![0; setup.units() as usize],
-        };
-        (0..setup.na).for_each(|at| state.set_mask(0, at, &all_blocks(setup)));
-        state
+        }
     }
 
-    fn registers(&self) -> Vec<u64> {
+    fn registers(&self) -> [u64; 5] {
         let Record { setup, mon_ctl, mon_ctr_val, alloc_ctl, block_mask } = self.record;
-        let mut words = vec![capabilities(&setup), mon_ctl, mon_ctr_val, alloc_ctl];
-        words.extend(&block_mask.0[..setup.mask_words()]);
-        words
+        [capabilities(&setup), mon_ctl, mon_ctr_val, alloc_ctl, block_mask]
     }
 
     fn monitor(&mut self) -> Monitor<'_> {
@@ -160,18 +118,16 @@ impl Performs for State {
         limits::write_alloc_ctl(self, value);
     }
 
-    /// Either half of each word may be written alone.
-    fn write_operand(&mut self, word: usize, part: Part, value: u64) {
-        let mut mask = self.record.block_mask;
-        mask.0[word] = write_part(mask.0[word], part, value);
-        self.record.block_mask = mask.and(&all_blocks(&self.record.setup));
+    /// Either half may be written alone.
+    fn write_operand(&mut self, part: Part, value: u64) {
+        let word = write_part(self.record.block_mask, part, value);
+        self.record.block_mask = word & all_blocks(&self.record.setup);
     }
 
     fn own(&mut self, call: &Call) -> Answer {
         match call {
             Call::Fill(fill) => return Answer::value(units::fill(self, fill)),
             Call::Evict { unit } => units::evict(self, *unit),
-            Call::Count { rcid, at } => return Answer::value(self.fill_mask(*rcid, *at).count()),
             _ => {}
         }
         Answer::default()

@@ -4,6 +4,7 @@ use super::owners::{owner_of, AT, MCID, RCID};
 use super::{Fill, State};
 use crate::model::field::Field;
 use crate::model::monitor::{counts_access_type, event_of};
+use crate::model::{access_type, Sizes};
 
 pub const CTR: Field = Field::new(62, 0);
 pub const INVALID: Field = Field::new(63, 63);
@@ -11,7 +12,8 @@ pub const INVALID: Field = Field::new(63, 63);
 /// Answers 1 where the pair's mask has the unit's block; otherwise 0, and nothing changes.
 pub fn fill(state: &mut State, fill: &Fill) -> u64 {
     let setup = state.record.setup;
-    if !state.fill_mask(fill.rcid, fill.at).has(setup.block_of(fill.unit)) {
+    let mask = state.masks[setup.place(fill.rcid, access_type(fill.at, setup.na))];
+    if mask >> setup.block_of(fill.unit) & 1 == 0 {
         return 0;
     }
     evict(state, fill.unit);
