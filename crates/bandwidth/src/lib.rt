@@ -1,4 +1,5 @@
 // The bandwidth controller: its record, and the calls on it.
+#![tactic(auto)]
 mod check;
 mod registers;
 mod request;

@@ -1,4 +1,5 @@
 // The words of bw_alloc, and the operations of alloc_ctl.
+#![tactic(auto)]
 mod operand;
 
 ghost use Rattle.std.specs.Prelude.{◌≡◌, cond, [], map, ◌<◌, ◌≤◌};

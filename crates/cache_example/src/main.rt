@@ -1,5 +1,6 @@
 // The source's worked example of capacity allocation (NCBLKS 8; RCID 5 with its own blocks for AT 0 and AT 1, RCIDs 3 and 6 with the same blocks for both),
 // run on the capacity controller: each line is a call and its answer.
+#![tactic(auto)]
 use access::{Ack, Reading, Refusal, refusal_number};
 use capacity::{Filling, Record};
 use capacity_masks::Setup;

@@ -1,4 +1,5 @@
 // Answers the lines of standard input: one read and one write for each chunk.
+#![tactic(auto)]
 ghost use Rattle.std.specs.Prelude.{◌≡◌, ◌*◌, ◌≤◌, length, take};
 ghost use Rattle.print.specs.Print.{line_room};
 ghost use Rattle.session.specs.View.{controller_of, Tables};

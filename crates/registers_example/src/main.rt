@@ -1,6 +1,7 @@
 // The register words of rules P1 to P12 (P8 and P9 have none), each unpacked, written field by field and packed again.
 // Lines `all` have every bit set, so that the bits that no field names are seen to be dropped; lines `cap` are the capacity controller's,
 // lines `dev` the words of an IOMMU that name a device's RCID and MCID.
+#![tactic(auto)]
 ghost use Rattle.fields.specs.View.{InRange, of_alloc_ctl, of_mon_ctl};
 ghost use Rattle.fields.specs.Registers.{alloc_ctl, mon_ctl};
 
