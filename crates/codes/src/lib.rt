@@ -1,5 +1,6 @@
 // Operation and event codes as the standard lists them: the rows of its tables, and the row in which a code stands.
 #![tactic(auto)]
+
 ghost use Rattle.std.specs.Prelude.{◌≤◌, ◌<◌, T};
 ghost use Rattle.codes.specs.Codes.{◌has◌, alloc_ops, mon_ops, bandwidth_events, capacity_events};
 ghost use Rattle.codes.specs.Claims.{Tables};

@@ -1,5 +1,6 @@
 // Little-endian words of 16, 32 and 64 bits in bytes. Each width is made of two of half the width.
 #![tactic(auto)]
+
 mod entry;
 mod part;
 

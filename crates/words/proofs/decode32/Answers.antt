@@ -1,0 +1,13 @@
+use Prim.Native.Nat.{◌-◌}
+use native.Mathlib.Omega.{arith}
+use Rattle.words.proofs.Loop.{Decoding, decode_start, decode_turn, decode_end}
+use Rattle.words.proofs.decode32.Goals as goal
+
+pub loop-i-init : goal.loop-i-init
+loop-i-init c = decode_start 4 _ _
+
+pub loop-i-preserved : goal.loop-i-preserved
+loop-i-preserved c = decode_turn c.loop-i.invariant (omega arith) c.load32.result c.load32.ensures.0
+
+pub returns : goal.returns
+returns c = decode_end c.loop-i.invariant (omega arith)

@@ -1,0 +1,16 @@
+use mathlib.Core.Path.{◌≡◌, sym, ap, ◌∙◌}
+use Prim.Native.Nat.{ℕ, ◌-◌, ◌/◌, ◌≤◌}
+use native.Mathlib.Omega.{arith}
+use lib.ListN.{length, get_or}
+use Rattle.tables.specs.View.{union_below}
+use Rattle.tables.proofs.Union.{union_none, union_next}
+use Rattle.words.specs.Words.{table_of}
+use Rattle.words.proofs.Parts.{entries, entry_in}
+use Rattle.words.proofs.entry.union64.Given as goal
+
+abbrev pub invariant-loop-i : goal.invariant-loop-i
+invariant-loop-i l =
+    ((l.i-end ≡ length l.b / 8) × (l.i ≤ l.i-end)) × (l.bits ≡ union_below l.i (λ k. get_or (table_of 8 l.b) k 0))
+
+abbrev pub decreases-loop-i : goal.decreases-loop-i
+decreases-loop-i l = l.i-end - l.i

@@ -1,0 +1,7 @@
+use lib.Dec.{lit<}
+use Rattle.std.proofs.Common.{rules}
+use Rattle.words.proofs.Parts.{loaded}
+use Rattle.words.proofs.part.load_part32.Goals as goal
+
+pub returns : goal.returns
+returns c = loaded 4 _ _ _ _ (lit< tt) c.requires c.decode32.ensures

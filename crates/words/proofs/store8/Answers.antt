@@ -1,0 +1,7 @@
+use native.Mathlib.Omega.{arith}
+use Rattle.std.proofs.Common.{rules}
+use Rattle.words.proofs.Word.{store_byte}
+use Rattle.words.proofs.store8.Goals as goal
+
+pub returns : goal.returns
+returns c = store_byte c.args.at c.args.w c.args.b.now (omega arith)
