@@ -6,7 +6,7 @@ ghost use Rattle.codes.specs.Codes.{◌has◌, alloc_ops, mon_ops, bandwidth_eve
 ghost use Rattle.codes.specs.Claims.{Tables};
 
 // OP of alloc_ctl: capacity (Table 6) and bandwidth (Table 12) allocation operations; FLUSH_RCID is one of capacity alone.
-#[derive(Drop)]
+#[derive(Clone, Copy)]
 pub enum AllocOp {
     ReservedZero,
     ConfigLimit,
@@ -17,7 +17,7 @@ pub enum AllocOp {
 }
 
 // OP of mon_ctl: usage monitoring operations (Tables 3 and 9).
-#[derive(Drop)]
+#[derive(Clone, Copy)]
 pub enum MonOp {
     ReservedZero,
     ConfigEvent,
@@ -27,7 +27,7 @@ pub enum MonOp {
 }
 
 // EVT_ID of the bandwidth controller: bandwidth monitoring event ID (Table 10).
-#[derive(Drop)]
+#[derive(Clone, Copy)]
 pub enum BandwidthEvent {
     None,
     TotalReadWrite,
@@ -38,7 +38,7 @@ pub enum BandwidthEvent {
 }
 
 // EVT_ID of the capacity controller: usage monitoring event ID (Table 4).
-#[derive(Drop)]
+#[derive(Clone, Copy)]
 pub enum CapacityEvent {
     None,
     Occupancy,
@@ -47,7 +47,7 @@ pub enum CapacityEvent {
 }
 
 // The two controllers by what they share out, as their tables of operations and of events differ.
-#[derive(Drop)]
+#[derive(Clone, Copy)]
 pub enum Resource {
     Bandwidth,
     Capacity,
