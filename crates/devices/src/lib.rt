@@ -1,5 +1,6 @@
 // The RCID and MCID of a device's request, where an IOMMU stands before the controller, and why they are refused.
 #![tactic(auto)]
+
 ghost use Rattle.std.specs.Prelude.{◌≡◌};
 ghost use Rattle.access.specs.Refusals.{number_of};
 ghost use Rattle.devices.specs.Devices.{uses_directory, identifiers_in, out_of_range};
