@@ -1,4 +1,3 @@
-use Rattle.std.proofs.Common.{rules}
 use Rattle.allocation.proofs.Status.{by_fields}
 use Rattle.allocation.proofs.alloc_status.Goals as goal
 

@@ -1,4 +1,3 @@
-use Rattle.std.proofs.Common.{rules}
 use Rattle.allocation.specs.Allocation.{alloc_word, control_ok}
 use Rattle.allocation.proofs.control_ok.Goals as goal
 

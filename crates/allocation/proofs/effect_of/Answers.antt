@@ -1,4 +1,3 @@
-use Rattle.std.proofs.Common.{rules}
 use Rattle.allocation.proofs.Status.{effect_by}
 use Rattle.allocation.proofs.effect_of.Goals as goal
 

@@ -1,5 +1,4 @@
 use native.Mathlib.Omega.{arith}
-use Rattle.std.proofs.Common.{rules}
 use Rattle.fields.proofs.Registers.{held_lt}
 use Rattle.allocation.specs.Allocation.{op_of, rcid_of, at_of, status_of}
 use Rattle.allocation.proofs.held_fields.Goals as goal
