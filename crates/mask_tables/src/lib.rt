@@ -1,5 +1,6 @@
 // Masks of several words, the lowest first: a mask as 16 words, and masks of n words each in a lent table.
 #![tactic(auto)]
+
 mod table;
 
 ghost use mathlib.Core.Path.{◌≡◌};
