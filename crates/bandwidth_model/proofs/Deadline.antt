@@ -29,7 +29,7 @@ use Rattle.bandwidth_model.proofs.WindowEnd.{was_served}
 use Rattle.bandwidth_model.proofs.Steps.{accepting, checking, write_by}
 use Rattle.bandwidth_model.proofs.Passed.{Put, wait_passed}
 use Rattle.bandwidth_model.proofs.Invariant.{Inv, keeps}
-use Rattle.bandwidth_model.proofs.Answers.{good-passes}
+use Rattle.bandwidth_model.proofs.Answers.{good_passes}
 use Rattle.bandwidth_model.proofs.Registers.{registered, invariants}
 
 -- ---- what a window end serves at least
@@ -132,7 +132,7 @@ module _ (u : Setup) (rcid at r : ℕ) (low : rcid < u.nr) where
   reads_none x l i same none =
       let nr = x.setup.nr in
       let known : rcid < nr = rw same low in
-      let checks = (answered controller accepting checking (λ u s. refl) x (good-passes i.good) _ (λ c. refl)).calls (need rcid) tt in
+      let checks = (answered controller accepting checking (λ u s. refl) x (good_passes i.good) _ (λ c. refl)).calls (need rcid) tt in
       let passes = checks.accepts.1 (cond_no (leb nr rcid) 7 0 (not_in (leb nr rcid) (λ t. omega (arith, known, leb→le nr rcid t)))) in
       ap (λ (o : Outcome). o.answer) (done_step accepting x (need rcid) passes) ∙ ap value none
 

@@ -27,7 +27,7 @@ use Rattle.capacity_model.specs.Ledger.{Ledger, Count, counter, tally}
 use Rattle.capacity_model.specs.Claim.{controller, book, Claim, Claims, Counting, AllocByNumber}
 use Rattle.capacity_model.proofs.Steps.{accepting, checking, allowed_is}
 use Rattle.capacity_model.proofs.Invariant.{Inv}
-use Rattle.capacity_model.proofs.Answers.{good-passes}
+use Rattle.capacity_model.proofs.Answers.{good_passes}
 use Rattle.capacity_model.proofs.Counters.{counter_none, fits_none}
 use Rattle.capacity_model.proofs.Registers.{registered, setting, invariants}
 
@@ -62,7 +62,7 @@ pub answering : Answering controller book
 answering = record {
   opens = reset_decided controller accepting checking (λ u s. refl);
   always = shared.ledger_always registered invariants _
-      (λ s l i. answered controller accepting checking (λ u s. refl) s (good-passes i.good) (book.checks_by l) (λ c. sym (ap (λ (k : Ledger). book.checks_by k c) i.same)));
+      (λ s l i. answered controller accepting checking (λ u s. refl) s (good_passes i.good) (book.checks_by l) (λ c. sym (ap (λ (k : Ledger). book.checks_by k c) i.same)));
 }
 
 pub counting : Counting
