@@ -1,5 +1,6 @@
 // Masks of n words each in a table that is lent as little-endian bytes.
 #![tactic(auto)]
+
 ghost use mathlib.Core.Path.{◌≡◌};
 ghost use mathlib.Core.Bool.{cond};
 ghost use mathlib.Core.List.{List, ◌++◌};
