@@ -1,5 +1,6 @@
 // Units of capacity in the lent owners and counters: evictions, fills and flushes, and check 3 over the owners.
 #![tactic(auto)]
+
 mod checks;
 mod owner;
 
