@@ -2,6 +2,7 @@
 // Lines `all` have every bit set, so that the bits that no field names are seen to be dropped; lines `cap` are the capacity controller's,
 // lines `dev` the words of an IOMMU that name a device's RCID and MCID.
 #![tactic(auto)]
+
 ghost use Rattle.fields.specs.View.{InRange, of_alloc_ctl, of_mon_ctl};
 ghost use Rattle.fields.specs.Registers.{alloc_ctl, mon_ctl};
 
@@ -9,59 +10,55 @@ use fields::{
     AllocCtl, BandwidthCapabilities, BandwidthCounter, BwAlloc, CapacityCapabilities,
     CapacityCounter, CounterSetting, DcTa, IommuQosid, MonCtl,
 };
-use libc::STDOUT_FILENO;
+use std::io;
 
 const ALL: u64 = 0xffff_ffff_ffff_ffff;
 
 // Writes to standard output.
-fn text(s: &[u8]) {
-    io::write_all(STDOUT_FILENO, s);
+fn text(rt: &impl Print, s: &str) -> io::Result<()> {
+    print!(rt; "{s}")
 }
 
 // A name and a number in decimal.
-fn number(name: &[u8], value: u64) {
-    text(b" ");
-    text(name);
-    text(b" ");
-    io::print_decimal(STDOUT_FILENO, value);
+fn number(rt: &impl Print, name: &str, value: u64) -> io::Result<()> {
+    print!(rt; " {name} {value}")
 }
 
 // A word as 16 hexadecimal digits, after a lead.
-fn hex(lead: &[u8], word: u64) {
-    text(lead);
-    io::print_hex(STDOUT_FILENO, word, 16);
+fn hex(rt: &impl Print, lead: &str, word: u64) -> io::Result<()> {
+    print!(rt; "{lead}{word:016x}")
 }
 
 // The start of a line: the case, the register and its word.
-fn start(case: &[u8], register: &[u8], word: u64) {
-    text(case);
-    text(register);
-    hex(b" ", word);
+fn start(rt: &impl Print, case: &str, register: &str, word: u64) -> io::Result<()> {
+    text(rt, case)?;
+    text(rt, register)?;
+    hex(rt, " ", word)
 }
 
 // The end of a line: the fields packed again.
-fn end(word: u64) {
-    hex(b" -> ", word);
-    text(b"\n");
+fn end(rt: &impl Print, word: u64) -> io::Result<()> {
+    hex(rt, " -> ", word)?;
+    text(rt, "\n")
 }
 
-fn capabilities(case: &[u8], word: u64) {
-    start(case, b" capabilities  ", word);
+fn capabilities(rt: &impl Print, case: &str, word: u64) -> io::Result<()> {
+    start(rt, case, " capabilities  ", word)?;
     let f = BandwidthCapabilities::unpack(word);
-    number(b"ver", f.ver);
-    number(b"nbwblks", f.nbwblks);
-    number(b"mrbwb", f.mrbwb);
-    end(f.pack());
+    number(rt, "ver", f.ver)?;
+    number(rt, "nbwblks", f.nbwblks)?;
+    number(rt, "mrbwb", f.mrbwb)?;
+    end(rt, f.pack())
 }
 
-fn bw_alloc(case: &[u8], word: u64) {
-    start(case, b" bw_alloc      ", word);
+fn bw_alloc(rt: &impl Print, case: &str, word: u64) -> io::Result<()> {
+    start(rt, case, " bw_alloc      ", word)?;
     let f = BwAlloc::unpack(word);
-    number(b"rbwb", f.rbwb);
-    number(b"mweight", f.mweight);
-    number(b"sharedat", f.sharedat);
-    number(b"useshared", f.useshared);
-    end(f.pack());
+    number(rt, "rbwb", f.rbwb)?;
+    number(rt, "mweight", f.mweight)?;
+    number(rt, "sharedat", f.sharedat)?;
+    number(rt, "useshared", f.useshared)?;
+    end(rt, f.pack())
 }
 
 // alloc_ctl's fields as they are held with `na` access types.
@@ -71,17 +68,17 @@ fn held_alloc_ctl(na: u64, word: u64) -> AllocCtl
     AllocCtl::unpack(word).held(na)
 }
 
-fn alloc_ctl(case: &[u8], na: u64, word: u64) {
-    text(case);
-    number(b"alloc_ctl NA", na);
-    hex(b" ", word);
+fn alloc_ctl(rt: &impl Print, case: &str, na: u64, word: u64) -> io::Result<()> {
+    text(rt, case)?;
+    number(rt, "alloc_ctl NA", na)?;
+    hex(rt, " ", word)?;
     let f = held_alloc_ctl(na, word);
-    number(b"op", f.op);
-    number(b"at", f.at);
-    number(b"rcid", f.rcid);
-    number(b"status", f.status);
-    number(b"busy", f.busy);
-    end(f.pack());
+    number(rt, "op", f.op)?;
+    number(rt, "at", f.at)?;
+    number(rt, "rcid", f.rcid)?;
+    number(rt, "status", f.status)?;
+    number(rt, "busy", f.busy)?;
+    end(rt, f.pack())
 }
 
 // mon_ctl's fields as they are held with `na` access types.
@@ -91,76 +88,76 @@ fn held_mon_ctl(na: u64, word: u64) -> MonCtl
     MonCtl::unpack(word).held(na)
 }
 
-fn mon_ctl(case: &[u8], na: u64, word: u64) {
-    text(case);
-    number(b"mon_ctl NA", na);
-    hex(b"   ", word);
+fn mon_ctl(rt: &impl Print, case: &str, na: u64, word: u64) -> io::Result<()> {
+    text(rt, case)?;
+    number(rt, "mon_ctl NA", na)?;
+    hex(rt, "   ", word)?;
     let f = held_mon_ctl(na, word);
-    number(b"op", f.op);
-    number(b"at", f.at);
-    number(b"mcid", f.mcid);
-    number(b"evtid", f.evtid);
-    number(b"atv", f.atv);
-    number(b"status", f.status);
-    number(b"busy", f.busy);
-    end(f.pack());
+    number(rt, "op", f.op)?;
+    number(rt, "at", f.at)?;
+    number(rt, "mcid", f.mcid)?;
+    number(rt, "evtid", f.evtid)?;
+    number(rt, "atv", f.atv)?;
+    number(rt, "status", f.status)?;
+    number(rt, "busy", f.busy)?;
+    end(rt, f.pack())
 }
 
-fn setting(case: &[u8], word: u64) {
-    start(case, b" setting       ", word);
+fn setting(rt: &impl Print, case: &str, word: u64) -> io::Result<()> {
+    start(rt, case, " setting       ", word)?;
     let f = CounterSetting::unpack(word);
-    number(b"evtid", f.evtid);
-    number(b"at", f.at);
-    number(b"atv", f.atv);
-    end(f.pack());
+    number(rt, "evtid", f.evtid)?;
+    number(rt, "at", f.at)?;
+    number(rt, "atv", f.atv)?;
+    end(rt, f.pack())
 }
 
-fn mon_ctr_val(case: &[u8], word: u64) {
-    start(case, b" mon_ctr_val   ", word);
+fn mon_ctr_val(rt: &impl Print, case: &str, word: u64) -> io::Result<()> {
+    start(rt, case, " mon_ctr_val   ", word)?;
     let f = BandwidthCounter::unpack(word);
-    number(b"ctr", f.ctr);
-    number(b"invalid", f.invalid);
-    number(b"ovf", f.ovf);
-    end(f.pack());
+    number(rt, "ctr", f.ctr)?;
+    number(rt, "invalid", f.invalid)?;
+    number(rt, "ovf", f.ovf)?;
+    end(rt, f.pack())
 }
 
-fn capacity_capabilities(case: &[u8], word: u64) {
-    start(case, b" capabilities  ", word);
+fn capacity_capabilities(rt: &impl Print, case: &str, word: u64) -> io::Result<()> {
+    start(rt, case, " capabilities  ", word)?;
     let f = CapacityCapabilities::unpack(word);
-    number(b"ver", f.ver);
-    number(b"ncblks", f.ncblks);
-    number(b"frcid", f.frcid);
-    end(f.pack());
+    number(rt, "ver", f.ver)?;
+    number(rt, "ncblks", f.ncblks)?;
+    number(rt, "frcid", f.frcid)?;
+    end(rt, f.pack())
 }
 
-fn capacity_mon_ctr_val(case: &[u8], word: u64) {
-    start(case, b" mon_ctr_val   ", word);
+fn capacity_mon_ctr_val(rt: &impl Print, case: &str, word: u64) -> io::Result<()> {
+    start(rt, case, " mon_ctr_val   ", word)?;
     let f = CapacityCounter::unpack(word);
-    number(b"ctr", f.ctr);
-    number(b"invalid", f.invalid);
-    end(f.pack());
+    number(rt, "ctr", f.ctr)?;
+    number(rt, "invalid", f.invalid)?;
+    end(rt, f.pack())
 }
 
-fn iommu_qosid(case: &[u8], word: u64) {
-    start(case, b" iommu_qosid   ", word);
+fn iommu_qosid(rt: &impl Print, case: &str, word: u64) -> io::Result<()> {
+    start(rt, case, " iommu_qosid   ", word)?;
     let f = IommuQosid::unpack(word);
-    number(b"rcid", f.rcid);
-    number(b"mcid", f.mcid);
-    end(f.pack());
+    number(rt, "rcid", f.rcid)?;
+    number(rt, "mcid", f.mcid)?;
+    end(rt, f.pack())
 }
 
-fn dc_ta(case: &[u8], word: u64) {
-    start(case, b" DC.ta         ", word);
+fn dc_ta(rt: &impl Print, case: &str, word: u64) -> io::Result<()> {
+    start(rt, case, " DC.ta         ", word)?;
     let f = DcTa::unpack(word);
-    number(b"rcid", f.rcid);
-    number(b"mcid", f.mcid);
-    end(f.pack());
+    number(rt, "rcid", f.rcid)?;
+    number(rt, "mcid", f.mcid)?;
+    end(rt, f.pack())
 }
 
 // A CONFIG_LIMIT: its operand in bw_alloc, and alloc_ctl after it.
-fn limit(case: &[u8], operand: u64, control: u64) {
-    bw_alloc(case, operand);
-    alloc_ctl(case, 2, control);
+fn limit(rt: &impl Print, case: &str, operand: u64, control: u64) -> io::Result<()> {
+    bw_alloc(rt, case, operand)?;
+    alloc_ctl(rt, case, 2, control)
 }
 
 // A counter's setting after a CONFIG_EVENT of an event other than 0: STATUS 1 stores the event, and AT only where ATV is 1; any other stores nothing.
@@ -187,62 +184,62 @@ fn configured(before: u64, control: u64) -> u64 {
 }
 
 // A CONFIG_EVENT: mon_ctl after it, and the counter's setting, which was `before`.
-fn event(case: &[u8], before: u64, control: u64) -> u64 {
-    mon_ctl(case, 2, control);
+fn event(rt: &impl Print, case: &str, before: u64, control: u64) -> io::Result<u64> {
+    mon_ctl(rt, case, 2, control)?;
     let after = configured(before, control);
-    setting(case, after);
-    after
+    setting(rt, case, after)?;
+    Ok(after)
 }
 
-fn allocation() {
-    capabilities(b"P1 ", 0x50_0000_6401);
-    limit(b"P2 ", 10, 0x5_0000_0101);
-    limit(b"P3 ", 30, 0x1_0000_0001);
-    limit(b"P4 ", 0x0050_001e, 0x1_0000_0101);
-    limit(b"P5 ", 21, 0x5_0000_0201);
-    limit(b"P5 ", 20, 0x1_0000_0201);
-    alloc_ctl(b"P6 ", 2, 0x3_0000_0401);
-    alloc_ctl(b"P6 ", 2, 0x2_0000_0403);
-    limit(b"P7 ", 0x8000_0000, 0x1_0000_0121);
-    limit(b"P7 ", 0x9000_0000, 0x5_0000_0121);
+fn allocation(rt: &impl Print) -> io::Result<()> {
+    capabilities(rt, "P1 ", 0x50_0000_6401)?;
+    limit(rt, "P2 ", 10, 0x5_0000_0101)?;
+    limit(rt, "P3 ", 30, 0x1_0000_0001)?;
+    limit(rt, "P4 ", 0x0050_001e, 0x1_0000_0101)?;
+    limit(rt, "P5 ", 21, 0x5_0000_0201)?;
+    limit(rt, "P5 ", 20, 0x1_0000_0201)?;
+    alloc_ctl(rt, "P6 ", 2, 0x3_0000_0401)?;
+    alloc_ctl(rt, "P6 ", 2, 0x2_0000_0403)?;
+    limit(rt, "P7 ", 0x8000_0000, 0x1_0000_0121)?;
+    limit(rt, "P7 ", 0x9000_0000, 0x5_0000_0121)
 }
 
-fn monitoring() {
-    let after = event(b"P10", 0, 0x1_0010_0201);
-    event(b"P10", after, 0x4_0040_0201);
-    mon_ctr_val(b"P11", 16_777_000);
-    mon_ctr_val(b"P11", 0x8000_0000_0000_0054);
-    alloc_ctl(b"P12", 1, 0x121);
+fn monitoring(rt: &impl Print) -> io::Result<()> {
+    let after = event(rt, "P10", 0, 0x1_0010_0201)?;
+    event(rt, "P10", after, 0x4_0040_0201)?;
+    mon_ctr_val(rt, "P11", 16_777_000)?;
+    mon_ctr_val(rt, "P11", 0x8000_0000_0000_0054)?;
+    alloc_ctl(rt, "P12", 1, 0x121)
 }
 
-fn every_bit() {
-    capabilities(b"all", ALL);
-    bw_alloc(b"all", ALL);
-    alloc_ctl(b"all", 2, ALL);
-    alloc_ctl(b"all", 1, ALL);
-    mon_ctl(b"all", 2, ALL);
-    mon_ctl(b"all", 1, ALL);
-    setting(b"all", ALL);
-    mon_ctr_val(b"all", ALL);
+fn every_bit(rt: &impl Print) -> io::Result<()> {
+    capabilities(rt, "all", ALL)?;
+    bw_alloc(rt, "all", ALL)?;
+    alloc_ctl(rt, "all", 2, ALL)?;
+    alloc_ctl(rt, "all", 1, ALL)?;
+    mon_ctl(rt, "all", 2, ALL)?;
+    mon_ctl(rt, "all", 1, ALL)?;
+    setting(rt, "all", ALL)?;
+    mon_ctr_val(rt, "all", ALL)
 }
 
-fn capacity() {
-    capacity_capabilities(b"cap", 0x801);
-    capacity_capabilities(b"cap", ALL);
-    capacity_mon_ctr_val(b"cap", 0x8000_0000_00ff_ffff);
+fn capacity(rt: &impl Print) -> io::Result<()> {
+    capacity_capabilities(rt, "cap", 0x801)?;
+    capacity_capabilities(rt, "cap", ALL)?;
+    capacity_mon_ctr_val(rt, "cap", 0x8000_0000_00ff_ffff)
 }
 
-fn devices() {
-    iommu_qosid(b"dev", 0x2_0001);
-    iommu_qosid(b"dev", ALL);
-    dc_ta(b"dev", 0x0020_0100_0000_0000);
-    dc_ta(b"dev", ALL);
+fn devices(rt: &impl Print) -> io::Result<()> {
+    iommu_qosid(rt, "dev", 0x2_0001)?;
+    iommu_qosid(rt, "dev", ALL)?;
+    dc_ta(rt, "dev", 0x0020_0100_0000_0000)?;
+    dc_ta(rt, "dev", ALL)
 }
 
-fn main() {
-    allocation();
-    monitoring();
-    every_bit();
-    capacity();
-    devices();
+fn main(rt: HostRuntime) -> io::Result<()> {
+    allocation(&rt)?;
+    monitoring(&rt)?;
+    every_bit(&rt)?;
+    capacity(&rt)?;
+    devices(&rt)
 }
