@@ -4,4 +4,13 @@ use Rattle.capacity_model.proofs.Cases.{cases}
 use Rattle.capacity_model.proofs.claims.Goals as goal
 
 pub returns : goal.returns
-returns c = (claims, (answering, (counting, (occupied, (register_reads, (statuses, (alloc_by_number, cases)))))))
+returns c = record {
+  masks = claims;
+  answers = answering;
+  counters = counting;
+  occupied = occupied;
+  registers = register_reads;
+  statuses = statuses;
+  numbers = alloc_by_number;
+  cases = cases;
+}
