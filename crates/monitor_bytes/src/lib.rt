@@ -1,5 +1,6 @@
 // Monitoring where counters and their settings are lent as little-endian bytes: the operations of `monitor` on words that are loaded and stored.
 #![tactic(auto)]
+
 ghost use Rattle.std.specs.Prelude.{◌≡◌, cond, List, ℕ, ◌+◌, ◌*◌, ◌^◌, ◌≤◌, ◌<◌, length, get_or, set};
 ghost use Rattle.fields.specs.Registers as reg;
 ghost use Rattle.tables.specs.Below.{all_below};
