@@ -1,5 +1,6 @@
 // The set-up of a bandwidth controller.
 #![tactic(auto)]
+
 ghost use Rattle.std.specs.Prelude.{◌≡◌};
 ghost use Rattle.bandwidth_model.specs.Rules.{setup_ok, pairs};
 ghost use Rattle.bandwidth_model.specs.View.{Ranges};
