@@ -16,14 +16,14 @@ use monitor::control_ok;
 use tables::saturating_sub;
 
 // The blocks that the holders in force and the holders configured reserve.
-#[derive(Drop)]
+#[derive(Clone, Copy)]
 pub struct Totals {
     pub active: u64,
     pub configured: u64,
 }
 
 // What checks 1 to 3 find.
-#[derive(Drop)]
+#[derive(Clone, Copy)]
 pub enum Check {
     Passed(Totals),
     Failed(Refusal),

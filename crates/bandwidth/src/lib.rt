@@ -15,7 +15,7 @@ pub use check::Totals;
 pub use reset::reset_row;
 
 // The set-up, the registers as they read, and the bytes that the pool gave.
-#[derive(Drop)]
+#[derive(Clone, Copy)]
 pub struct Record {
     pub setup: Setup,
     pub mon_ctl: u64,
@@ -26,25 +26,25 @@ pub struct Record {
 }
 
 // The answer of a request: the bytes of the reservation and of the pool, or why it is refused.
-#[derive(Drop)]
+#[derive(Clone, Copy)]
 pub enum Granting {
     Bytes(Grant),
     Refused(Refusal),
 }
 
-#[derive(Drop)]
+#[derive(Clone, Copy)]
 pub struct Acked {
     pub record: Record,
     pub ack: Ack,
 }
 
-#[derive(Drop)]
+#[derive(Clone, Copy)]
 pub struct Read {
     pub record: Record,
     pub reading: Reading,
 }
 
-#[derive(Drop)]
+#[derive(Clone, Copy)]
 pub struct Served {
     pub record: Record,
     pub granting: Granting,

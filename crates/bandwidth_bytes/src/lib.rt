@@ -9,14 +9,14 @@ pub mod write;
 use bandwidth_grants::Grant;
 
 // The refusal's number, 0 for none, and the value read.
-#[derive(Drop)]
+#[derive(Clone, Copy)]
 pub struct Answer {
     pub number: u64,
     pub value: u64,
 }
 
 // The refusal's number, 0 for none, and the bytes granted.
-#[derive(Drop)]
+#[derive(Clone, Copy)]
 pub struct Served {
     pub number: u64,
     pub grant: Grant,

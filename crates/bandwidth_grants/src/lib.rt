@@ -15,14 +15,14 @@ use fields::field;
 use tables::{least, pick, put32, saturating_sub, word32};
 
 // The AT of the holder that a request is led to, if there is one.
-#[derive(Drop)]
+#[derive(Clone, Copy)]
 pub enum Holder {
     Nobody,
     Held(u64),
 }
 
 // The bytes granted: reserved ones, of the holder's reservation, and those of the pool.
-#[derive(Drop)]
+#[derive(Clone, Copy)]
 pub struct Grant {
     pub reserved: u64,
     pub pool: u64,
@@ -116,7 +116,7 @@ pub fn spend(used: &mut [u32], pool: u64, holder: Holder, grant: Grant) -> u64
 }
 
 // What a request is granted and the sum of both amounts, and what the pool gave with them to all.
-#[derive(Drop)]
+#[derive(Clone, Copy)]
 pub struct Given {
     pub grant: Grant,
     pub sum: u64,

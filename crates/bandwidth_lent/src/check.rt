@@ -11,14 +11,14 @@ use codes::Resource;
 use monitor_bytes::{bandwidth_counters_ok, events_ok};
 
 // The record that the bytes hold, and what the settings tables reserve.
-#[derive(Drop)]
+#[derive(Clone, Copy)]
 pub struct Held {
     pub record: Record,
     pub totals: Totals,
 }
 
 // What checks 1 to 3 find: the refusal's number, or what a call goes on from.
-#[derive(Drop)]
+#[derive(Clone, Copy)]
 pub enum Check {
     Passed(Held),
     Failed(u64),

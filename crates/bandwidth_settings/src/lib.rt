@@ -1,5 +1,6 @@
 // The words of bw_alloc, and the operations of alloc_ctl.
 #![tactic(auto)]
+
 mod operand;
 
 ghost use Rattle.std.specs.Prelude.{◌≡◌, cond, [], map, ◌<◌, ◌≤◌};
@@ -120,7 +121,7 @@ pub fn registers_ok(setup: Setup, ctl: u64, bw: u64) -> bool
 }
 
 // alloc_ctl and bw_alloc after an operation.
-#[derive(Drop)]
+#[derive(Clone, Copy)]
 pub struct Written {
     pub ctl: u64,
     pub bw: u64,

@@ -8,7 +8,7 @@ ghost use Rattle.tables.specs.View.{Small};
 ghost use Rattle.bandwidth_setup.specs.View.{setup_of};
 
 // NBWBLKS, MRBWB, NR, NA, NM, Q and W.
-#[derive(Drop)]
+#[derive(Clone, Copy)]
 pub struct Setup {
     pub nbwblks: u64,
     pub mrbwb: u64,

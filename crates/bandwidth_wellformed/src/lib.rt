@@ -19,7 +19,7 @@ pub use settings::{Sums, TableSums, add_sums, no_sums, sum_rows};
 use settings::{sum_tables, table_ok};
 
 // Whether the tables are well formed, and the blocks that each settings table reserves.
-#[derive(Drop)]
+#[derive(Clone, Copy)]
 pub struct TablesOk {
     pub ok: bool,
     pub active: u64,

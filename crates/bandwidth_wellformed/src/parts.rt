@@ -33,7 +33,7 @@ fn part_end(from: usize, step: usize, end: usize) -> usize
 }
 
 // A part: the row after it, and where its words begin and end.
-#[derive(Drop)]
+#[derive(Clone, Copy)]
 pub struct Span {
     pub next: usize,
     pub from: usize,

@@ -14,7 +14,7 @@ fn form_bits(w: u32) -> u32
     w & pick(w % 65536 == 0, 0x0fff_ffff, 0xf00f_0000)
 }
 
-#[derive(Drop)]
+#[derive(Clone, Copy)]
 struct Scan {
     any: u32,
     form: u32,
@@ -39,7 +39,7 @@ fn scan_words(t: &[u32]) -> Scan
 }
 
 // What rows of a settings table hold: the bits that may not be there, whether each row is right, and the blocks.
-#[derive(Drop)]
+#[derive(Clone, Copy)]
 pub struct TableSums {
     pub form: u32,
     pub rows: bool,
@@ -85,7 +85,7 @@ fn sum_configured(
 }
 
 // What rows of the tables in force, configured and used hold.
-#[derive(Drop)]
+#[derive(Clone, Copy)]
 pub struct Sums {
     pub active: TableSums,
     pub configured: TableSums,

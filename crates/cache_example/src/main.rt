@@ -7,7 +7,7 @@ use capacity_masks::Setup;
 use libc::STDOUT_FILENO;
 
 // A controller with its tables.
-#[derive(Drop)]
+#[derive(Clone, Copy)]
 struct Cache {
     record: Record,
     masks: [u64; 16],

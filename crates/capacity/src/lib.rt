@@ -9,7 +9,7 @@ use access::{Ack, Reading, Refusal};
 use capacity_masks::Setup;
 
 // The set-up, and the registers as they read.
-#[derive(Drop)]
+#[derive(Clone, Copy)]
 pub struct Record {
     pub setup: Setup,
     pub mon_ctl: u64,
@@ -19,33 +19,33 @@ pub struct Record {
 }
 
 // The answer of a fill.
-#[derive(Drop)]
+#[derive(Clone, Copy)]
 pub enum Filling {
     Allowed,
     NotAllowed,
     Refused(Refusal),
 }
 
-#[derive(Drop)]
+#[derive(Clone, Copy)]
 pub struct Acked {
     pub record: Record,
     pub ack: Ack,
 }
 
-#[derive(Drop)]
+#[derive(Clone, Copy)]
 pub struct Read {
     pub record: Record,
     pub reading: Reading,
 }
 
-#[derive(Drop)]
+#[derive(Clone, Copy)]
 pub struct Filled {
     pub record: Record,
     pub filling: Filling,
 }
 
 // The record, the words of the pair and of the MCID that a written value names, and whether the units of the RCID that it names are flushed.
-#[derive(Drop)]
+#[derive(Clone, Copy)]
 pub struct WriteWords {
     pub record: Record,
     pub mask: u64,
@@ -55,7 +55,7 @@ pub struct WriteWords {
 }
 
 // What a write answers and leaves.
-#[derive(Drop)]
+#[derive(Clone, Copy)]
 pub struct Wrote {
     pub ack: Ack,
     pub left: WriteWords,

@@ -6,7 +6,7 @@ ghost use Rattle.capacity_bytes.specs.View.{number_in, values_in};
 use access::{Ack, Reading, refusal_number};
 
 // The refusal's number, 0 for none, and what goes to the call's pointer.
-#[derive(Drop)]
+#[derive(Clone, Copy)]
 pub struct Answered {
     pub number: u64,
     pub value: u64,

@@ -31,7 +31,7 @@ fn well_formed(held: Record, masks: &[u8], counters: &[u8], events: &[u8], owner
 }
 
 // The record, or the refusal's number.
-#[derive(Drop)]
+#[derive(Clone, Copy)]
 pub enum Check {
     Passed(Record),
     Failed(u64),

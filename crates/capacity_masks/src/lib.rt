@@ -76,7 +76,7 @@ pub fn named_rcid(v: u64) -> u64
 }
 
 // alloc_ctl, block_mask, the mask of one pair, and whether the operation flushes an RCID.
-#[derive(Drop)]
+#[derive(Clone, Copy)]
 pub struct AllocWords {
     pub ctl: u64,
     pub operand: u64,

@@ -9,7 +9,7 @@ ghost use Rattle.capacity_masks.specs.View.{setup_of};
 use access::{known_at, place};
 
 // NCBLKS, NR, NA, NM, W and U.
-#[derive(Drop)]
+#[derive(Clone, Copy)]
 pub struct Setup {
     pub ncblks: u64,
     pub nr: u64,

@@ -10,14 +10,14 @@ use bandwidth::Record;
 use bandwidth_setup::Setup;
 
 // The record after a line, and where its answer ends.
-#[derive(Drop)]
+#[derive(Clone, Copy)]
 struct Line {
     record: Record,
     end: usize,
 }
 
 // The controller's record, and the first bytes, at most 81, of the line that has not ended.
-#[derive(Drop)]
+#[derive(Clone, Copy)]
 pub struct State {
     pub record: Record,
     pub line: [u8; 81],
@@ -25,7 +25,7 @@ pub struct State {
 }
 
 // The state after a chunk, and how many bytes answer it.
-#[derive(Drop)]
+#[derive(Clone, Copy)]
 pub struct Progress {
     pub state: State,
     pub used: usize,
