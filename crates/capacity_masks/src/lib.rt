@@ -1,5 +1,6 @@
 // The set-up of a capacity controller, its block masks, and the operations of alloc_ctl on them.
 #![tactic(auto)]
+
 mod setup;
 
 ghost use Rattle.std.specs.Prelude.{◌≡◌, ℕ, ◌<◌, length, get_or, eqb};
