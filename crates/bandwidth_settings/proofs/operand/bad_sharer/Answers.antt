@@ -1,11 +1,10 @@
--- `bandwidth_settings::operand::bad_sharer` meets its contract.
 use mathlib.Core.Path.{◌≡◌}
 use mathlib.Core.Bool.{Bool, not, ◌||◌}
 use mathlib.Core.List.{List}
 use Prim.Native.Nat.{ℕ}
 use lib.Dec.{leb, eqb}
 use lib.ListN.{get_or}
-use borrow.Author.Rules.{rules}
+use Rattle.std.proofs.Common.{rules}
 use Rattle.fields.specs.Layout.{unpack}
 use Rattle.fields.specs.Registers.{bw_alloc}
 use Rattle.fields.specs.View.{of_bw_alloc}
@@ -13,8 +12,7 @@ use Rattle.fields.specs.declared.BwAlloc.{BwAlloc}
 use Rattle.tables.specs.Below.{any_below}
 use Rattle.bandwidth_model.specs.Rules.{Setup, shared_at_of, is_holder}
 use Rattle.bandwidth_settings.specs.Rows.{shares_in, bad_sharer_in}
-use Rattle.bandwidth_settings.proofs.operand.bad_sharer.Statement.{statement}
-use Rattle.bandwidth_settings.proofs.operand.bad_sharer.Tie as tie
+use Rattle.bandwidth_settings.proofs.operand.bad_sharer.Goals as goal
 
 -- the test over what the callees give
 steps : (su : Setup) (row : List ℕ) (at word w : ℕ) (f : BwAlloc) (holder shared : Bool) → of_bw_alloc f ≡ unpack bw_alloc word
@@ -23,11 +21,7 @@ steps : (su : Setup) (row : List ℕ) (at word w : ℕ) (f : BwAlloc) (holder sh
 unfolding bad_sharer_in shared_at_of
 steps su row at word w f holder shared e g h k = cc
 
-returns : tie.Need-returns
+pub returns : goal.returns
 returns c =
-    let h = c.before.before.before.before in
-    steps _ _ _ _ _ _ _ _ h.before.before.unpack.ensures.is h.before.word32.ensures h.is-holder.ensures c.is_shared.ensures
-
-pub bad-sharer-spec : {M : Type 1} → statement M
-bad-sharer-spec =
-    tie.close (tie.spec (λ c κs. search rules) (λ c κs. search rules) (λ c. search rules) (λ c κs. search rules) (λ c κs. search rules) returns)
+    let h = c.before in
+    steps _ _ _ _ _ _ _ _ h.unpack-f.ensures.is h.word32.ensures h.is_holder-holder.ensures c.is_shared.ensures
