@@ -1,5 +1,6 @@
 // Units of capacity where owners, counters and counter settings are lent as little-endian bytes: the operations of `unit_tables` on words that are loaded and stored.
 #![tactic(auto)]
+
 ghost use Rattle.std.specs.Prelude.{◌≡◌, cond, List, ℕ, ◌^◌, ◌≤◌, ◌<◌, length, get_or, set};
 ghost use Rattle.fields.specs.Layout.{get};
 ghost use Rattle.fields.specs.Registers.{capacity_ctr};

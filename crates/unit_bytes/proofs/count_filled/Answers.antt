@@ -1,0 +1,14 @@
+use Rattle.std.proofs.Common.{rules}
+use lib.Dec.{lit<}
+use Rattle.words.specs.Words.{table_of}
+use Rattle.words.proofs.Held.{table_put}
+use Rattle.unit_tables.proofs.Steps.{filled_at}
+use Rattle.unit_bytes.proofs.count_filled.Goals as goal
+
+pub returns : goal.returns
+returns c =
+    let counted = c.before in
+    let a = counted.args in
+    filled_at (table_of 8 a.counters.now) (table_of 2 a.events.now) _ _ _ _ _ counted.word64.ensures counted.word16.ensures
+    (table_put 8 (lit< tt) _ _ a.counters.now _ (search rules) c.put64.ensures) a.w a.at
+    counted.counted_fill-counter.ensures
