@@ -1,5 +1,6 @@
 // Requests by the words of one RCID: the holder that a request is led to, what it is granted, and what is used afterwards.
 #![tactic(auto)]
+
 ghost use Rattle.std.specs.Prelude.{◌≡◌, cond, List, ℕ, ◌-◌, ◌*◌, min, eqb};
 ghost use Rattle.tables.specs.View.{Small};
 ghost use Rattle.bandwidth_model.specs.Rules.{reserved, weight_of, shared_at_of};

@@ -1,0 +1,21 @@
+use mathlib.Core.Path.{◌≡◌, refl, sym, ◌∙◌}
+use mathlib.Core.Bool.{Bool, cond}
+use Rattle.std.proofs.Common.{rules}
+use Rattle.bandwidth_model.specs.Rules.{is_holder, is_sharer, nobody, held}
+use Rattle.bandwidth_grants.specs.Grants.{holder_in}
+use Rattle.bandwidth_grants.proofs.Steps.{led}
+use Rattle.bandwidth_grants.proofs.holder_of.Goals as goal
+
+pub returns-then-is_holder : goal.returns-then-is_holder
+returns-then-is_holder c =
+    led _ _ c.word32-word.ensures (sym c.if-is_holder.true ∙ c.is_holder.ensures) refl c.shared_at-other.ensures.is
+
+pub returns-then-is_sharer : goal.returns-then-is_sharer
+returns-then-is_sharer c =
+    led _ _ c.word32-word.ensures (sym c.if-is_holder.false ∙ c.is_holder.ensures) (sym c.if-is_sharer.true ∙ c.is_sharer.ensures)
+    c.shared_at-other.ensures.is
+
+pub returns : goal.returns
+returns c =
+    led _ _ c.word32-word.ensures (sym c.if-is_holder.false ∙ c.is_holder.ensures) (sym c.if-is_sharer.false ∙ c.is_sharer.ensures)
+    c.shared_at-other.ensures.is
