@@ -1,22 +1,49 @@
 // Answers the lines of standard input: one read and one write for each chunk.
 #![tactic(auto)]
+
 ghost use Rattle.std.specs.Prelude.{◌≡◌, ◌*◌, ◌≤◌, length, take};
 ghost use Rattle.print.specs.Print.{line_room};
 ghost use Rattle.session.specs.View.{controller_of, Tables};
 ghost use Rattle.stream.specs.Stream.{Fed};
 
-use libc::{STDIN_FILENO, STDOUT_FILENO};
+use std::io;
+use std::io::Read;
 use stream::{Progress, State, feed, finish, start};
 
-// What a chunk led to, and how many bytes it had.
+// How many bytes a read put at the start of a chunk, none where it failed, and how it went.
+#[derive(Drop)]
+struct Got {
+    bytes: usize,
+    outcome: io::Result<()>,
+}
+
+// What a chunk led to, how many bytes it had, and how its read went.
 #[derive(Drop)]
 struct Chunk {
     progress: Progress,
     got: usize,
+    outcome: io::Result<()>,
+}
+
+// Reads once.
+fn take_in(input: &mut impl Read, chunk: &mut [u8]) -> Got
+    ensures { result.bytes ≤ length chunk.new }
+{
+    match input.read(chunk) {
+        Ok(bytes) => Got {
+            bytes,
+            outcome: Ok(()),
+        },
+        Err(why) => Got {
+            bytes: 0,
+            outcome: Err(why),
+        },
+    }
 }
 
 // Reads once and answers the lines that end there; the bytes read are the first `got` of `chunk`.
 fn turn(
+    input: &mut impl Read,
     state: State,
     active: &mut [u32],
     configured: &mut [u32],
@@ -31,8 +58,10 @@ fn turn(
     ensures { Fed (controller_of state.«record» active.old configured.old used.old counters.old events.old waiters.old) (take state.len state.line) (take result.got chunk.new)
         (controller_of result.progress.state.«record» active.new configured.new used.new counters.new events.new waiters.new) (take result.progress.state.len result.progress.state.line) out.new result.progress.used }
 {
-    let count = libc::read(STDIN_FILENO, chunk);
-    let got = io::count(count, chunk);
+    let Got {
+        bytes: got,
+        outcome,
+    } = take_in(input, chunk);
     let progress = feed(
         state,
         active,
@@ -44,11 +73,17 @@ fn turn(
         &chunk[..got],
         out,
     );
-    Chunk { progress, got }
+    Chunk {
+        progress,
+        got,
+        outcome,
+    }
 }
 
-// Chunk after chunk until a read has no byte or a write fails, and then the end of input.
+// Chunk after chunk until a read has no byte or a write fails, and then the end of input. What failed first is the error.
 fn listen(
+    input: &mut impl Read,
+    output: &impl Print,
     active: &mut [u32],
     configured: &mut [u32],
     used: &mut [u32],
@@ -57,27 +92,30 @@ fn listen(
     waiters: &mut [u64],
     chunk: &mut [u8],
     out: &mut [u8],
-)
+) -> io::Result<()>
     requires { Tables active.old configured.old used.old counters.old events.old waiters.old × ((1 ≤ length chunk.old) × (line_room * length chunk.old ≤ length out.old)) }
 {
     let mut state = start();
     let mut turns = u64::MAX;
     let mut more = true;
+    let mut outcome = Ok(());
     while turns > 0 && more {
         let t = turn(
-            state, active, configured, used, counters, events, waiters, chunk, out,
+            input, state, active, configured, used, counters, events, waiters, chunk, out,
         );
         let progress = t.progress;
         let end = progress.used;
-        let wrote = io::write_all(STDOUT_FILENO, &out[..end]);
-        more = wrote & (t.got > 0);
+        let wrote = output.write_all(&out[..end]);
+        more = wrote.is_ok() & (t.got > 0);
+        outcome = t.outcome.and(wrote);
         state = progress.state;
         turns -= 1;
     }
     let end = finish(
         state, active, configured, used, counters, events, waiters, out,
     );
-    io::write_all(STDOUT_FILENO, &out[..end]);
+    let wrote = output.write_all(&out[..end]);
+    outcome.and(wrote)
 }
 
 // A word for each of 256 RCIDs and 8 ATs.
@@ -113,7 +151,7 @@ fn out_room() -> [u8; 344064]
     [0; 344064]
 }
 
-fn main() {
+fn main(rt: HostRuntime) -> io::Result<()> {
     let mut active = room32();
     let mut configured = room32();
     let mut used = room32();
@@ -123,6 +161,8 @@ fn main() {
     let mut chunk = chunk_room();
     let mut out = out_room();
     listen(
+        &mut rt.stdin(),
+        &rt,
         &mut active,
         &mut configured,
         &mut used,
@@ -131,5 +171,5 @@ fn main() {
         &mut waiters,
         &mut chunk,
         &mut out,
-    );
+    )
 }
