@@ -1,5 +1,6 @@
 // Requests that wait: the words of waiters, and what a waiter is served by the words of its RCID as a window opens.
 #![tactic(auto)]
+
 mod service;
 mod words;
 
