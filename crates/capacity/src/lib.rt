@@ -1,5 +1,6 @@
 // The capacity controller: its record, and the calls on it.
 #![tactic(auto)]
+
 mod cache;
 mod check;
 mod registers;
