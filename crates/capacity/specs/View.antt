@@ -1,7 +1,5 @@
 -- The code's record, tables and answers as the model's.
 use Rattle.std.specs.Prelude.{true, false, List, ℕ}
-use Rattle.std.specs.Borrow.{Bor}
-use denote.Triple.Both.{Both}
 use Rattle.access.specs.Refusals.{number_of}
 use Rattle.access.specs.declared.Ack.{Ack}
 use Rattle.access.specs.declared.Ack.TheVariants as ack
@@ -22,16 +20,6 @@ state r masks counters events owners = record {
   monitor = record { ctl = r.mon_ctl; value = r.mon_ctr_val; counters = counters; events = events };
   owners = owners;
 }
-
--- the state when a call is made and when it returns, over the places that a contract names; a table lent as & stays
-abbrev pub Slice : Type 0
-Slice = Both (Bor (List ℕ)) (Bor (List ℕ))
-
-abbrev pub before : Record → Slice → Slice → Slice → Slice → State
-before r masks counters events owners = state r masks.entry.now counters.entry.now events.entry.now owners.entry.now
-
-abbrev pub after : Record → Slice → Slice → Slice → Slice → State
-after r masks counters events owners = state r masks.exit.now counters.exit.now events.exit.now owners.exit.now
 
 abbrev pub outcome : Answer → State → Outcome
 outcome a s = record { answer = a; state = s }

@@ -10,7 +10,7 @@ ghost use Rattle.capacity_model.specs.View.{Ranges};
 ghost use Rattle.capacity_model.specs.Calls.{fill, evict};
 ghost use Rattle.capacity_model.specs.Model.{unit_checks, fill_checks, step};
 ghost use Rattle.capacity_masks.specs.View.{setup_of};
-ghost use Rattle.capacity.specs.View.{state, before, after, outcome, ack_of, filling_of};
+ghost use Rattle.capacity.specs.View.{state, outcome, ack_of, filling_of};
 ghost use Rattle.capacity.specs.Checked.{Passed, FillAnswered, evict_left};
 
 use crate::{Acked, Filled, Filling, Record};
@@ -95,7 +95,7 @@ impl Record {
         at: u64,
         unit: u64,
     ) -> Filled
-        ensures { outcome (filling_of result.filling) (after result.«record» masks counters events owners) ≡ step (before self masks counters events owners) (fill rcid mcid at unit) }
+        ensures { outcome (filling_of result.filling) (state result.«record» masks.now counters.new events.now owners.new) ≡ step (state self masks.now counters.old events.now owners.old) (fill rcid mcid at unit) }
     {
         match self.check(masks, counters, events, owners) {
             Verdict::Failed(why) => Filled {
@@ -137,7 +137,7 @@ impl Record {
         owners: &mut [u32],
         unit: u64,
     ) -> Acked
-        ensures { outcome (ack_of result.ack) (after result.«record» masks counters events owners) ≡ step (before self masks counters events owners) (evict unit) }
+        ensures { outcome (ack_of result.ack) (state result.«record» masks.now counters.new events.now owners.new) ≡ step (state self masks.now counters.old events.now owners.old) (evict unit) }
     {
         match self.check(masks, counters, events, owners) {
             Verdict::Failed(why) => Acked {

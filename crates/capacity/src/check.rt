@@ -5,7 +5,7 @@ ghost use Rattle.access.specs.View.{verdict_of};
 ghost use Rattle.capacity_model.specs.View.{Ranges, Sized};
 ghost use Rattle.capacity_model.specs.Model.{lengths_ok, well_formed, setup_checks, state_checks};
 ghost use Rattle.capacity_masks.specs.View.{setup_of};
-ghost use Rattle.capacity.specs.View.{state, before};
+ghost use Rattle.capacity.specs.View.{state};
 ghost use Rattle.capacity.specs.Checked.{TablesTested};
 
 use crate::Record;
@@ -27,7 +27,7 @@ impl Record {
         owners: &[u32],
     ) -> bool
         requires { Ranges (setup_of setup) }
-        ensures { result ≡ lengths_ok (setup_of setup) (before self masks counters events owners) }
+        ensures { result ≡ lengths_ok (setup_of setup) (state self masks.now counters.now events.now owners.now) }
     {
         let pairs = setup.pairs() as usize;
         let nm = setup.nm as usize;
@@ -54,7 +54,7 @@ impl Record {
     // Check 3.
     fn well_formed(self, masks: &[u64], counters: &[u64], events: &[u16], owners: &[u32]) -> bool
         requires { Ranges (setup_of self.setup) × Sized (setup_of self.setup) masks.now counters.now events.now owners.now }
-        ensures { result ≡ well_formed (before self masks counters events owners) }
+        ensures { result ≡ well_formed (state self masks.now counters.now events.now owners.now) }
     {
         let setup = self.setup;
         self.judge(
@@ -74,7 +74,7 @@ impl Record {
         events: &[u16],
         owners: &[u32],
     ) -> Verdict
-        ensures { verdict_of result ≡ first (setup_checks (setup_of setup) (before self masks counters events owners)) 0 }
+        ensures { verdict_of result ≡ first (setup_checks (setup_of setup) (state self masks.now counters.now events.now owners.now)) 0 }
     {
         if setup.in_range() {
             if self.lengths_ok(setup, masks, counters, events, owners) {
@@ -89,7 +89,7 @@ impl Record {
 
     // Checks 1 to 3.
     pub fn check(self, masks: &[u64], counters: &[u64], events: &[u16], owners: &[u32]) -> Verdict
-        ensures { verdict_of result ≡ first (state_checks (before self masks counters events owners)) 0 }
+        ensures { verdict_of result ≡ first (state_checks (state self masks.now counters.now events.now owners.now)) 0 }
     {
         match self.check_setup(self.setup, masks, counters, events, owners) {
             Verdict::Failed(why) => Verdict::Failed(why),

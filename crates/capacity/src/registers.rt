@@ -6,7 +6,7 @@ ghost use Rattle.capacity_model.specs.View.{Ranges};
 ghost use Rattle.capacity_model.specs.Calls.{read, write};
 ghost use Rattle.capacity_model.specs.Model.{capabilities, register, write_at, step};
 ghost use Rattle.capacity_masks.specs.View.{setup_of};
-ghost use Rattle.capacity.specs.View.{state, before, after, outcome, ack_of, reading_of};
+ghost use Rattle.capacity.specs.View.{state, outcome, ack_of, reading_of};
 ghost use Rattle.capacity.specs.Checked.{Passed, WordsIn, wrote};
 
 use crate::cache::flush_if;
@@ -65,7 +65,7 @@ impl Record {
         size: u64,
         offset: u64,
     ) -> Read
-        ensures { outcome (reading_of result.reading) (after result.«record» masks counters events owners) ≡ step (before self masks counters events owners) (read size offset) }
+        ensures { outcome (reading_of result.reading) (state result.«record» masks.now counters.now events.now owners.now) ≡ step (state self masks.now counters.now events.now owners.now) (read size offset) }
     {
         match self.check(masks, counters, events, owners) {
             Verdict::Failed(why) => Read {
@@ -168,7 +168,7 @@ impl Record {
         offset: u64,
         value: u64,
     ) -> Acked
-        ensures { outcome (ack_of result.ack) (after result.«record» masks counters events owners) ≡ step (before self masks counters events owners) (write size offset value) }
+        ensures { outcome (ack_of result.ack) (state result.«record» masks.new counters.new events.new owners.new) ≡ step (state self masks.old counters.old events.old owners.old) (write size offset value) }
     {
         match self.check(masks, counters, events, owners) {
             Verdict::Failed(why) => Acked {

@@ -5,7 +5,7 @@ ghost use Rattle.capacity_model.specs.Calls.{reset};
 ghost use Rattle.capacity_model.specs.Rules.{pairs, reset_masks};
 ghost use Rattle.capacity_model.specs.Model.{step};
 ghost use Rattle.capacity_masks.specs.View.{setup_of};
-ghost use Rattle.capacity.specs.View.{before, after, outcome, ack_of};
+ghost use Rattle.capacity.specs.View.{state, outcome, ack_of};
 
 use crate::{Acked, Record};
 use access::{Ack, Verdict};
@@ -31,7 +31,7 @@ impl Record {
         owners: &mut [u32],
         setup: Setup,
     ) -> Acked
-        ensures { outcome (ack_of result.ack) (after result.«record» masks counters events owners) ≡ step (before self masks counters events owners) (reset (setup_of setup)) }
+        ensures { outcome (ack_of result.ack) (state result.«record» masks.new counters.new events.new owners.new) ≡ step (state self masks.old counters.old events.old owners.old) (reset (setup_of setup)) }
     {
         match self.check_setup(setup, masks, counters, events, owners) {
             Verdict::Failed(why) => Acked {

@@ -1,7 +1,5 @@
 -- Lent bytes as a call finds and leaves them, the code's record beside them, and what checks 1 to 3 find.
 use Rattle.std.specs.Prelude.{◌≡◌, not, cond, List, [], ◌∷◌, ℕ, ◌*◌, T, length, replicate}
-use Rattle.std.specs.Borrow.{Bor}
-use denote.Triple.Both.{Both}
 use Rattle.words.specs.Words.{table_of, Holds}
 use Rattle.replies.specs.Replies.{refusal}
 use Rattle.capacity_model.specs.Rules.{Setup, pairs, unit_count}
@@ -14,16 +12,6 @@ use Rattle.capacity.specs.Checked.{Passed}
 use Rattle.capacity_bytes.specs.Bytes.{Lent, lent, record_length, record_of, state_of, byte_refusal, pointers, step_bytes}
 use Rattle.capacity_bytes.specs.declared.check.Check.{Check}
 use Rattle.capacity_bytes.specs.declared.check.Check.TheVariants as check
-
--- the lent bytes when a call is made and when it returns, over the places that a contract names
-abbrev pub Slice : Type 0
-Slice = Both (Bor (List ℕ)) (Bor (List ℕ))
-
-abbrev pub before : Slice → Slice → Slice → Slice → Slice → Lent
-before r masks counters events owners = lent r.entry.now masks.entry.now counters.entry.now events.entry.now owners.entry.now
-
-abbrev pub after : Slice → Slice → Slice → Slice → Slice → Lent
-after r masks counters events owners = lent r.exit.now masks.exit.now counters.exit.now events.exit.now owners.exit.now
 
 -- the number of an answer, and what it gives to as many pointers
 abbrev pub number_in : Answer → ℕ

@@ -7,7 +7,6 @@ ghost use Rattle.units.specs.Owners.{flushed_owners};
 ghost use Rattle.units.specs.Counts.{flushed};
 ghost use Rattle.capacity_model.specs.Calls.{fill, evict};
 ghost use Rattle.capacity_bytes.specs.Bytes.{step_bytes};
-ghost use Rattle.capacity_bytes.specs.View.{before, after};
 
 use crate::answer::Answered;
 use crate::check::{Check, checked};
@@ -36,7 +35,7 @@ pub fn fill(
     at: u64,
     unit: u64,
 ) -> Answered
-    ensures { reply result.number (result.value ∷ []) (after «record» masks counters events owners) ≡ step_bytes (before «record» masks counters events owners) (fill rcid mcid at unit) }
+    ensures { reply result.number (result.value ∷ []) (lent «record».now masks.now counters.new events.now owners.new) ≡ step_bytes (lent «record».now masks.now counters.old events.now owners.old) (fill rcid mcid at unit) }
 {
     match checked(record, masks, counters, events, owners) {
         Check::Failed(why) => Answered {
@@ -77,7 +76,7 @@ pub fn evict(
     owners: &mut [u8],
     unit: u64,
 ) -> u64
-    ensures { reply result [] (after «record» masks counters events owners) ≡ step_bytes (before «record» masks counters events owners) (evict unit) }
+    ensures { reply result [] (lent «record».now masks.now counters.new events.now owners.new) ≡ step_bytes (lent «record».now masks.now counters.old events.now owners.old) (evict unit) }
 {
     match checked(record, masks, counters, events, owners) {
         Check::Failed(why) => why,

@@ -5,7 +5,7 @@ ghost use Rattle.capacity_model.specs.View.{Ranges, Sized};
 ghost use Rattle.capacity_model.specs.Model.{well_formed};
 ghost use Rattle.capacity_masks.specs.View.{setup_of};
 ghost use Rattle.capacity.specs.View.{state};
-ghost use Rattle.capacity_bytes.specs.View.{before, Checked};
+ghost use Rattle.capacity_bytes.specs.View.{Checked};
 
 use crate::lent::record_refusal;
 use crate::record::load_record;
@@ -38,7 +38,7 @@ pub enum Check {
 }
 
 pub fn checked(record: &[u8], masks: &[u8], counters: &[u8], events: &[u8], owners: &[u8]) -> Check
-    ensures { Checked (before «record» masks counters events owners) result }
+    ensures { Checked (lent «record».now masks.now counters.now events.now owners.now) result }
 {
     let why = record_refusal(record, masks, counters, events, owners);
     if why != 0 {

@@ -2,7 +2,6 @@
 ghost use Rattle.std.specs.Prelude.{◌≡◌};
 ghost use Rattle.capacity_masks.specs.View.{setup_of};
 ghost use Rattle.capacity_bytes.specs.Bytes.{state_of, byte_refusal};
-ghost use Rattle.capacity_bytes.specs.View.{before};
 
 use crate::record::load_record;
 use capacity_masks::Setup;
@@ -17,7 +16,7 @@ pub fn byte_refusal(
     events: &[u8],
     owners: &[u8],
 ) -> u64
-    ensures { result ≡ byte_refusal (setup_of setup) (before «record» masks counters events owners) }
+    ensures { result ≡ byte_refusal (setup_of setup) (lent «record».now masks.now counters.now events.now owners.now) }
 {
     if record.len() != 80 {
         return 1;
@@ -44,7 +43,7 @@ pub fn record_refusal(
     events: &[u8],
     owners: &[u8],
 ) -> u64
-    ensures { result ≡ byte_refusal (state_of (before «record» masks counters events owners)).setup (before «record» masks counters events owners) }
+    ensures { result ≡ byte_refusal (state_of (lent «record».now masks.now counters.now events.now owners.now)).setup (lent «record».now masks.now counters.now events.now owners.now) }
 {
     if record.len() == 80 {
         let setup = load_record(record).setup;

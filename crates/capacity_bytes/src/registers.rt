@@ -3,7 +3,6 @@ ghost use Rattle.std.specs.Prelude.{◌≡◌, [], ◌∷◌};
 ghost use Rattle.replies.specs.Replies.{reply};
 ghost use Rattle.capacity_model.specs.Calls.{read, write};
 ghost use Rattle.capacity_bytes.specs.Bytes.{step_bytes};
-ghost use Rattle.capacity_bytes.specs.View.{before, after};
 
 use crate::answer::{Answered, ack_number, reading_numbers};
 use crate::cache::flush_if;
@@ -22,7 +21,7 @@ pub fn read(
     size: u64,
     offset: u64,
 ) -> Answered
-    ensures { reply result.number (result.value ∷ []) (after «record» masks counters events owners) ≡ step_bytes (before «record» masks counters events owners) (read size offset) }
+    ensures { reply result.number (result.value ∷ []) (lent «record».now masks.now counters.now events.now owners.now) ≡ step_bytes (lent «record».now masks.now counters.now events.now owners.now) (read size offset) }
 {
     match checked(record, masks, counters, events, owners) {
         Check::Failed(why) => Answered {
@@ -43,7 +42,7 @@ pub fn write(
     offset: u64,
     value: u64,
 ) -> u64
-    ensures { reply result [] (after «record» masks counters events owners) ≡ step_bytes (before «record» masks counters events owners) (write size offset value) }
+    ensures { reply result [] (lent «record».new masks.new counters.new events.new owners.new) ≡ step_bytes (lent «record».old masks.old counters.old events.old owners.old) (write size offset value) }
 {
     match checked(record, masks, counters, events, owners) {
         Check::Failed(why) => why,

@@ -7,7 +7,6 @@ ghost use Rattle.capacity_model.specs.View.{Ranges};
 ghost use Rattle.capacity_model.specs.Rules.{pairs, reset_masks};
 ghost use Rattle.capacity_masks.specs.View.{setup_of};
 ghost use Rattle.capacity_bytes.specs.Bytes.{step_bytes};
-ghost use Rattle.capacity_bytes.specs.View.{before, after};
 
 use crate::lent::byte_refusal;
 use crate::record::store_record;
@@ -35,7 +34,7 @@ pub fn reset(
     events: &mut [u8],
     owners: &mut [u8],
 ) -> u64
-    ensures { reply result [] (after «record» masks counters events owners) ≡ step_bytes (before «record» masks counters events owners) (reset (setup_of setup)) }
+    ensures { reply result [] (lent «record».new masks.new counters.new events.new owners.new) ≡ step_bytes (lent «record».old masks.old counters.old events.old owners.old) (reset (setup_of setup)) }
 {
     let why = byte_refusal(setup, record, masks, counters, events, owners);
     if why != 0 {

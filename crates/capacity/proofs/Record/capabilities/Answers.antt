@@ -1,4 +1,3 @@
-use Rattle.std.proofs.Common.{rules}
 use Rattle.capacity_model.specs.Model.{capabilities}
 use Rattle.capacity.proofs.Record.capabilities.Goals as goal
 

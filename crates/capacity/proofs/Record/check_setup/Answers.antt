@@ -1,5 +1,4 @@
 use mathlib.Core.Path.{refl, sym, ◌∙◌}
-use Rattle.std.proofs.Common.{rules}
 use Rattle.tables.proofs.Tests.{of_true}
 use Rattle.access.specs.Checks.{setup_checks}
 use Rattle.capacity_model.proofs.Setup.{ranges}

@@ -1,4 +1,3 @@
-use Rattle.std.proofs.Common.{rules}
 use mathlib.Core.Path.{sym, ap, ◌∙◌}
 use Rattle.access.specs.View.{verdict_of}
 use Rattle.capacity_model.specs.Calls.{evict}

@@ -1,5 +1,4 @@
 use mathlib.Core.Path.{refl, sym, ap, ◌∙◌}
-use Rattle.std.proofs.Common.{rules}
 use Rattle.access.specs.View.{verdict_of}
 use Rattle.capacity_model.specs.Calls.{evict}
 use Rattle.capacity_model.specs.Model.{argument_checks, perform}

@@ -1,4 +1,3 @@
-use Rattle.std.proofs.Common.{rules}
 use mathlib.Core.Path.{refl, sym, ap, ◌∙◌}
 use native.Mathlib.Omega.{arith}
 use Rattle.access.specs.View.{verdict_of}
@@ -26,7 +25,7 @@ fill-requires c =
       record {
         rcid_low = omega (arith, n.rcid_in, r.nr_high);
         mcid_low = omega (arith, n.mcid_in, r.nm_high);
-        at_low = omega (arith, c.known_at_lem.ensures, known_lt a.self.setup.na a.at r.na_low, r.na_high);
+        at_low = omega (arith, c.known_at-known.ensures, known_lt a.self.setup.na a.at r.na_low, r.na_high);
       },
       counters_ok _ p,
     )
@@ -39,7 +38,7 @@ unfolding word_at
 returns-in-Allowed c =
     let f = c.before in
     let v = c.fill.ensures in
-    fill_performed _ _ _ _ _ (f.filling-filling.ensures _ _ _ _ _ (sym (ap verdict_of f.in-Passed.is) ∙ f.check.ensures) (λ h. rw (f.word64-mask.ensures, f.pair_at.ensures h))) c.in-Allowed.is _ _ _ c.known_at_lem.ensures v.0 v.1
+    fill_performed _ _ _ _ _ (f.filling-filling.ensures _ _ _ _ _ (sym (ap verdict_of f.in-Passed.is) ∙ f.check.ensures) (λ h. rw (f.word64-mask.ensures, f.pair_at.ensures h))) c.in-Allowed.is _ _ _ c.known_at-known.ensures v.0 v.1
 
 pub returns-in-NotAllowed : goal.returns-in-NotAllowed
 unfolding word_at

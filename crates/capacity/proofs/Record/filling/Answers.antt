@@ -1,5 +1,4 @@
 use mathlib.Core.Path.{sym, ap, ◌∙◌}
-use Rattle.std.proofs.Common.{rules}
 use Rattle.access.specs.View.{verdict_of}
 use Rattle.capacity_model.proofs.Steps.{fill_named}
 use Rattle.capacity.specs.View.{state}
@@ -20,11 +19,11 @@ returns-then-has_block c =
     λ ms ns es os at p m.
     let v = c.before in
     fill_allowed_lem (state v.args.self ms ns es os) _ _ at _ p (sym (ap verdict_of v.in-Passed.is) ∙ v.fill_verdict.ensures) _ _ m
-    c.Block-of.ensures.0 _ c.has_block.ensures c.if-has_block.true
+    c.block_of.ensures.0 _ c.has_block.ensures c.if-has_block.true
 
 pub returns-else-has_block : goal.returns-else-has_block
 returns-else-has_block c =
     λ ms ns es os at p m.
     let v = c.before in
     fill_not (state v.args.self ms ns es os) _ _ at _ p (sym (ap verdict_of v.in-Passed.is) ∙ v.fill_verdict.ensures) _ _ m
-    c.Block-of.ensures.0 _ c.has_block.ensures c.if-has_block.false
+    c.block_of.ensures.0 _ c.has_block.ensures c.if-has_block.false

@@ -1,4 +1,3 @@
-use Rattle.std.proofs.Common.{rules}
 use Rattle.capacity_model.specs.Model.{lengths_ok}
 use Rattle.capacity.proofs.Record.lengths_ok.Goals as goal
 

@@ -1,4 +1,3 @@
-use Rattle.std.proofs.Common.{rules}
 use mathlib.Core.Path.{refl}
 use borrow.Author.Tests.{ne_eqb}
 use Rattle.capacity_model.specs.Model.{register}
@@ -25,5 +24,5 @@ unfolding register
 returns-in_default c =
     λ ms ns es os.
     let n = c.args.n in
-    let r = c.in_default.rest in
+    let r = c.in_default.in_default-own.rest in
     rw (ne_eqb n 0 r.0.0.0.1, ne_eqb n 1 r.0.0.1, ne_eqb n 2 r.0.1, ne_eqb n 3 r.1) refl

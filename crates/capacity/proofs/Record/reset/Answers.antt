@@ -2,7 +2,6 @@ use mathlib.Core.Path.{sym, ap, ◌∙◌}
 use mathlib.Core.List.{List}
 use Prim.Native.Nat.{ℕ}
 use lib.ListN.{replicate}
-use Rattle.std.proofs.Common.{rules}
 use Rattle.access.specs.View.{verdict_of}
 use Rattle.capacity_model.proofs.Setup.{ranges}
 use Rattle.capacity.proofs.Checks.{setup_passed, lengths_passed}

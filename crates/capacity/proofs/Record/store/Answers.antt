@@ -1,4 +1,3 @@
-use Rattle.std.proofs.Common.{rules}
 use Rattle.capacity.specs.View.{state}
 use Rattle.capacity.proofs.Calls.{alloc_stored, mask_stored, mon_stored, none_stored}
 use Rattle.capacity.proofs.Record.store.Goals as goal
@@ -15,6 +14,6 @@ returns-in-8 c = λ ms ns es os n. mon_stored (state c.args.self ms ns es os) _ 
 pub returns-in_default : goal.returns-in_default
 returns-in_default c =
     λ ms ns es os n.
-    let r = c.in_default.rest in
+    let r = c.in_default.in_default-own.rest in
     let s = c.before in
     none_stored (state s.args.self ms ns es os) _ _ _ _ _ _ n s.requires.1 r.0.0.1 r.0.1 r.1

@@ -1,4 +1,3 @@
-use Rattle.std.proofs.Common.{rules}
 use Rattle.capacity.proofs.Record.well_formed.Goals as goal
 
 pub owners_ok-requires : goal.owners_ok-requires

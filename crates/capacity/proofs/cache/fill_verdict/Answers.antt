@@ -1,5 +1,4 @@
 use mathlib.Core.Path.{refl}
-use Rattle.std.proofs.Common.{rules}
 use Rattle.capacity_model.specs.Model.{fill_checks}
 use Rattle.capacity.proofs.cache.fill_verdict.Goals as goal
 

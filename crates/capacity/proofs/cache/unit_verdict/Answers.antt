@@ -1,5 +1,4 @@
 use mathlib.Core.Path.{refl}
-use Rattle.std.proofs.Common.{rules}
 use borrow.Author.Tests.{le-leb, lt-leb}
 use Rattle.capacity_model.specs.Model.{unit_checks}
 use Rattle.capacity.proofs.cache.unit_verdict.Goals as goal
