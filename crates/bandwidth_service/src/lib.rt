@@ -1,5 +1,6 @@
 // All waiters served as a window opens, on bytes: the words of one RCID at a time are loaded and stored.
 #![tactic(auto)]
+
 ghost use Rattle.std.specs.Prelude.{◌≡◌, ◌+◌, ◌*◌, ◌≤◌, ◌<◌, length};
 ghost use Rattle.tables.specs.View.{Small};
 ghost use Rattle.words.specs.Words.{table_of};
