@@ -5,4 +5,4 @@ pub mod Marks
 pub mod Mweights
 pub mod Passes
 pub mod Tables
-pub mod Sums
+pub mod SumLaws

@@ -1,5 +1,6 @@
 // Check 3 over the lent tables of a bandwidth controller, by sums of rows that must be 0 or small.
 #![tactic(auto)]
+
 mod parts;
 mod rows;
 mod settings;

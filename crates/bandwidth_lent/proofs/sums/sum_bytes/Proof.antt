@@ -5,7 +5,7 @@ use native.Mathlib.Omega.{arith}
 use borrow.Author.Rules.{rules}
 use Rattle.words.specs.Words.{table_of}
 use Rattle.bandwidth_wellformed.specs.Tables.{Summed}
-use Rattle.bandwidth_wellformed.proofs.Sums.{span_rows, sums_more, sums_fit}
+use Rattle.bandwidth_wellformed.proofs.SumLaws.{span_rows, sums_more, sums_fit}
 use Rattle.bandwidth_lent.proofs.Parts.{span_in}
 use Rattle.bandwidth_lent.proofs.sums.sum_bytes.Statement.{statement}
 use Rattle.bandwidth_lent.proofs.sums.sum_bytes.Tie as tie

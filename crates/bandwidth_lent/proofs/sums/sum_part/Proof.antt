@@ -5,7 +5,7 @@ use lib.ListN.{replicate}
 use lib.Seq.{length-take-le}
 use borrow.Author.Rules.{rules}
 use Rattle.tables.proofs.Tests.{of_true}
-use Rattle.bandwidth_wellformed.proofs.Sums.{zeros_none}
+use Rattle.bandwidth_wellformed.proofs.SumLaws.{zeros_none}
 use Rattle.bandwidth_lent.proofs.Parts.{part_words}
 use Rattle.bandwidth_lent.proofs.sums.sum_part.Statement.{statement}
 use Rattle.bandwidth_lent.proofs.sums.sum_part.Tie as tie

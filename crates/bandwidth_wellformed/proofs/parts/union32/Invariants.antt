@@ -1,0 +1,14 @@
+use mathlib.Core.Path.{◌≡◌}
+use Prim.Native.Nat.{◌≤◌, ◌-◌}
+use native.Mathlib.Omega.{arith}
+use Rattle.std.proofs.Common.{rules}
+use lib.ListN.{length, get_or}
+use Rattle.bandwidth_wellformed.specs.Bits.{AtMost}
+use Rattle.bandwidth_wellformed.proofs.Passes.{at_most_none, at_most_next}
+use Rattle.bandwidth_wellformed.proofs.parts.union32.Given as goal
+
+abbrev pub invariant-loop-i : goal.invariant-loop-i
+invariant-loop-i l = ((l.i-end ≡ length l.t) × (l.i ≤ l.i-end)) × AtMost (λ k. get_or l.t k 0) l.i l.bits
+
+abbrev pub decreases-loop-i : goal.decreases-loop-i
+decreases-loop-i l = l.i-end - l.i

@@ -1,0 +1,21 @@
+use mathlib.Core.Path.{◌≡◌, sym}
+use mathlib.Core.Bool.{◌&&◌}
+use mathlib.Core.List.{List}
+use Prim.Native.Nat.{ℕ, ◌+◌, ◌-◌, ◌/◌, ◌%◌, ◌^◌, ◌≤◌}
+use native.Mathlib.Omega.{arith}
+use Rattle.std.proofs.Common.{rules}
+use lib.Bits.{bit_and, bit_or}
+use lib.Dec.{eqb}
+use lib.ListN.{get_or}
+use Rattle.tables.specs.View.{union_below}
+use Rattle.tables.proofs.Union.{union_none, union_next}
+use Rattle.bandwidth_wellformed.specs.Bits.{mark_at, lacking, sharing_bits, absent_at, differing, weight_bits, row_right}
+use Rattle.bandwidth_wellformed.proofs.Bits.{or_ge_r}
+use Rattle.bandwidth_wellformed.proofs.rows.row_right.Given as goal
+
+abbrev pub invariant-loop-a : goal.invariant-loop-a
+invariant-loop-a l =
+    (l.a ≤ l.na) × ((l.m ≡ union_below l.a (mark_at l.t l.base)) × ((l.some ≡ union_below l.a (λ k. get_or l.t (l.base + k) 0)) × (l.less ≡ union_below l.a (absent_at l.t l.base))))
+
+abbrev pub decreases-loop-a : goal.decreases-loop-a
+decreases-loop-a l = l.na - l.a

@@ -1,0 +1,16 @@
+use mathlib.Core.Path.{◌≡◌, sym}
+use Prim.Native.Nat.{◌≤◌, ◌-◌}
+use native.Mathlib.Omega.{arith}
+use Rattle.std.proofs.Common.{rules}
+use lib.ListN.{length}
+use Rattle.tables.specs.View.{union_below}
+use Rattle.tables.proofs.Union.{union_none, union_next}
+use Rattle.bandwidth_wellformed.specs.Bits.{blocks_at, over_at}
+use Rattle.bandwidth_wellformed.proofs.usage.over_exactly.Given as goal
+
+abbrev pub invariant-loop-i : goal.invariant-loop-i
+invariant-loop-i l =
+    ((l.i-end ≡ length l.used) × (l.i ≤ l.i-end)) × (l.bits ≡ union_below l.i (over_at l.q l.active l.used))
+
+abbrev pub decreases-loop-i : goal.decreases-loop-i
+decreases-loop-i l = l.i-end - l.i
