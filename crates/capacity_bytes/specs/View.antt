@@ -9,7 +9,7 @@ use Rattle.capacity_model.specs.Model.{State}
 use Rattle.capacity.specs.declared.Record.{Record}
 use Rattle.capacity.specs.View.{state}
 use Rattle.capacity.specs.Checked.{Passed}
-use Rattle.capacity_bytes.specs.Bytes.{Lent, lent, record_length, record_of, state_of, byte_refusal, pointers, step_bytes}
+use Rattle.capacity_bytes.specs.Bytes.{Lent, record_length, record_of, state_of, byte_refusal, pointers, step_bytes}
 use Rattle.capacity_bytes.specs.declared.check.Check.{Check}
 use Rattle.capacity_bytes.specs.declared.check.Check.TheVariants as check
 

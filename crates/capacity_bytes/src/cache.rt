@@ -6,7 +6,7 @@ ghost use Rattle.monitor.specs.Occupancy.{evicted};
 ghost use Rattle.units.specs.Owners.{flushed_owners};
 ghost use Rattle.units.specs.Counts.{flushed};
 ghost use Rattle.capacity_model.specs.Calls.{fill, evict};
-ghost use Rattle.capacity_bytes.specs.Bytes.{step_bytes};
+ghost use Rattle.capacity_bytes.specs.Bytes.{lent, step_bytes};
 
 use crate::answer::Answered;
 use crate::check::{Check, checked};

@@ -5,6 +5,7 @@ ghost use Rattle.capacity_model.specs.View.{Ranges, Sized};
 ghost use Rattle.capacity_model.specs.Model.{well_formed};
 ghost use Rattle.capacity_masks.specs.View.{setup_of};
 ghost use Rattle.capacity.specs.View.{state};
+ghost use Rattle.capacity_bytes.specs.Bytes.{lent};
 ghost use Rattle.capacity_bytes.specs.View.{Checked};
 
 use crate::lent::record_refusal;

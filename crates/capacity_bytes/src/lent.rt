@@ -1,7 +1,7 @@
 // The lengths of the lent bytes.
 ghost use Rattle.std.specs.Prelude.{◌≡◌};
 ghost use Rattle.capacity_masks.specs.View.{setup_of};
-ghost use Rattle.capacity_bytes.specs.Bytes.{state_of, byte_refusal};
+ghost use Rattle.capacity_bytes.specs.Bytes.{lent, state_of, byte_refusal};
 
 use crate::record::load_record;
 use capacity_masks::Setup;

@@ -2,7 +2,7 @@
 ghost use Rattle.std.specs.Prelude.{◌≡◌, [], ◌∷◌};
 ghost use Rattle.replies.specs.Replies.{reply};
 ghost use Rattle.capacity_model.specs.Calls.{read, write};
-ghost use Rattle.capacity_bytes.specs.Bytes.{step_bytes};
+ghost use Rattle.capacity_bytes.specs.Bytes.{lent, step_bytes};
 
 use crate::answer::{Answered, ack_number, reading_numbers};
 use crate::cache::flush_if;

@@ -6,7 +6,7 @@ ghost use Rattle.capacity_model.specs.Calls.{reset};
 ghost use Rattle.capacity_model.specs.View.{Ranges};
 ghost use Rattle.capacity_model.specs.Rules.{pairs, reset_masks};
 ghost use Rattle.capacity_masks.specs.View.{setup_of};
-ghost use Rattle.capacity_bytes.specs.Bytes.{step_bytes};
+ghost use Rattle.capacity_bytes.specs.Bytes.{lent, step_bytes};
 
 use crate::lent::byte_refusal;
 use crate::record::store_record;
