@@ -1,5 +1,6 @@
 // The bandwidth controller: its record, and the calls on it.
 #![tactic(auto)]
+
 mod check;
 mod registers;
 mod request;

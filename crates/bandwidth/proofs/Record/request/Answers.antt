@@ -1,0 +1,6 @@
+use Rattle.std.proofs.Common.{rules}
+use Rattle.bandwidth_model.proofs.Devices.{request_is}
+use Rattle.bandwidth.proofs.Record.request.Goals as goal
+
+pub returns : goal.returns
+returns c = c.request_by.ensures _ (request_is _ _ _ _ _)
