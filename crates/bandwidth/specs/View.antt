@@ -1,7 +1,5 @@
 -- The code's record, tables and answers as the model's.
 use Rattle.std.specs.Prelude.{List, ℕ, set, replicate}
-use Rattle.std.specs.Borrow.{Bor}
-use denote.Triple.Both.{Both}
 use Rattle.access.specs.Refusals.{number_of}
 use Rattle.bandwidth_model.specs.Rules.{Setup, holder_word, sharer_word, reset_weight}
 use Rattle.bandwidth_model.specs.Calls.{Answer, refused, done, value, granted}
@@ -24,16 +22,6 @@ state r active configured used counters events waiters = record {
   monitor = record { ctl = r.mon_ctl; value = r.mon_ctr_val; counters = counters; events = events };
   waiters = waiters;
 }
-
--- the state when a call is made and when it returns, over the places that a contract names; a table lent as & stays
-abbrev pub Slice : Type 0
-Slice = Both (Bor (List ℕ)) (Bor (List ℕ))
-
-abbrev pub before : Record → Slice → Slice → Slice → Slice → Slice → Slice → State
-before r active configured used counters events waiters = state r active.entry.now configured.entry.now used.entry.now counters.entry.now events.entry.now waiters.entry.now
-
-abbrev pub after : Record → Slice → Slice → Slice → Slice → Slice → Slice → State
-after r active configured used counters events waiters = state r active.exit.now configured.exit.now used.exit.now counters.exit.now events.exit.now waiters.exit.now
 
 abbrev pub outcome : Answer → State → Outcome
 outcome a s = record { answer = a; state = s }

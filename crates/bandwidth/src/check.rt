@@ -4,7 +4,7 @@ ghost use Rattle.bandwidth_model.specs.View.{Ranges};
 ghost use Rattle.bandwidth_model.specs.Model.{lengths_ok, well_formed};
 ghost use Rattle.bandwidth_setup.specs.View.{setup_of};
 ghost use Rattle.bandwidth_wellformed.specs.Tables.{TablesChecked};
-ghost use Rattle.bandwidth.specs.View.{state, before};
+ghost use Rattle.bandwidth.specs.View.{state};
 ghost use Rattle.bandwidth.specs.Checked.{Checked};
 
 use crate::Record;
@@ -42,7 +42,7 @@ impl Record {
         waiters: &[u64],
     ) -> bool
         requires { Ranges (setup_of setup) }
-        ensures { result ≡ lengths_ok (setup_of setup) (before self active configured used counters events waiters) }
+        ensures { result ≡ lengths_ok (setup_of setup) (state self active.now configured.now used.now counters.now events.now waiters.now) }
     {
         let pairs = setup.pairs() as usize;
         let nm = setup.nm as usize;
@@ -77,7 +77,7 @@ impl Record {
         events: &[u16],
         waiters: &[u64],
     ) -> Check
-        ensures { Checked (before self active configured used counters events waiters) result }
+        ensures { Checked (state self active.now configured.now used.now counters.now events.now waiters.now) result }
     {
         let setup = self.setup;
         if setup.in_range() {

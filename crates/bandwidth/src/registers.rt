@@ -4,7 +4,7 @@ ghost use Rattle.bandwidth_model.specs.View.{Ranges};
 ghost use Rattle.bandwidth_model.specs.Calls.{read, write};
 ghost use Rattle.bandwidth_model.specs.Model.{capabilities, register, write_at, step};
 ghost use Rattle.bandwidth_setup.specs.View.{setup_of};
-ghost use Rattle.bandwidth.specs.View.{before, after, state, outcome, ack_of, reading_of};
+ghost use Rattle.bandwidth.specs.View.{state, outcome, ack_of, reading_of};
 ghost use Rattle.bandwidth.specs.Checked.{Passes};
 ghost use Rattle.bandwidth.specs.declared.check.Totals as totals;
 
@@ -69,7 +69,7 @@ impl Record {
         size: u64,
         offset: u64,
     ) -> Read
-        ensures { outcome (reading_of result.reading) (after result.«record» active configured used counters events waiters) ≡ step (before self active configured used counters events waiters) (read size offset) }
+        ensures { outcome (reading_of result.reading) (state result.«record» active.now configured.now used.now counters.now events.now waiters.now) ≡ step (state self active.now configured.now used.now counters.now events.now waiters.now) (read size offset) }
     {
         match self.check(active, configured, used, counters, events, waiters) {
             Check::Failed(why) => Read {
@@ -100,7 +100,7 @@ impl Record {
         value: u64,
     ) -> Record
         requires { Passes (state self active.now configured.old used.now counters.old events.old waiters.now) totals }
-        ensures { after result active configured used counters events waiters ≡ write_at (before self active configured used counters events waiters) offset value }
+        ensures { state result active.now configured.new used.now counters.new events.new waiters.now ≡ write_at (state self active.now configured.old used.now counters.old events.old waiters.now) offset value }
     {
         let setup = self.setup;
         match offset {
@@ -139,7 +139,7 @@ impl Record {
         offset: u64,
         value: u64,
     ) -> Acked
-        ensures { outcome (ack_of result.ack) (after result.«record» active configured used counters events waiters) ≡ step (before self active configured used counters events waiters) (write size offset value) }
+        ensures { outcome (ack_of result.ack) (state result.«record» active.now configured.new used.now counters.new events.new waiters.now) ≡ step (state self active.now configured.old used.now counters.old events.old waiters.now) (write size offset value) }
     {
         match self.check(active, configured, used, counters, events, waiters) {
             Check::Failed(why) => Acked {

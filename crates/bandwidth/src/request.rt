@@ -4,7 +4,7 @@ ghost use Rattle.access.specs.Refusals.{number_of};
 ghost use Rattle.bandwidth_model.specs.Calls.{Call, request, device_request};
 ghost use Rattle.bandwidth_model.specs.View.{Requests};
 ghost use Rattle.bandwidth_model.specs.Model.{requested, step};
-ghost use Rattle.bandwidth.specs.View.{before, after, state, outcome, granting_of};
+ghost use Rattle.bandwidth.specs.View.{state, outcome, granting_of};
 ghost use Rattle.bandwidth.specs.Checked.{Passes};
 
 use crate::check::{Check, Totals};
@@ -33,7 +33,7 @@ impl Record {
         bytes: u32,
     ) -> Served
         requires { Passes (state self active.now configured.now used.old counters.old events.now waiters.now) totals × (rcid < self.setup.nr) }
-        ensures { outcome (granting_of result.granting) (after result.«record» active configured used counters events waiters) ≡ requested (before self active configured used counters events waiters) rcid mcid at kind bytes }
+        ensures { outcome (granting_of result.granting) (state result.«record» active.now configured.now used.new counters.new events.now waiters.now) ≡ requested (state self active.now configured.now used.old counters.old events.now waiters.now) rcid mcid at kind bytes }
     {
         let setup = self.setup;
         let at = known_at(setup.na, at);
@@ -76,7 +76,7 @@ impl Record {
         bytes: u32,
     ) -> Served
         ensures { (c : Call) → Requests c (number_of unknown) rcid mcid at kind bytes
-            → outcome (granting_of result.granting) (after result.«record» active configured used counters events waiters) ≡ step (before self active configured used counters events waiters) c }
+            → outcome (granting_of result.granting) (state result.«record» active.now configured.now used.new counters.new events.now waiters.now) ≡ step (state self active.now configured.now used.old counters.old events.now waiters.now) c }
     {
         match self.check(active, configured, used, counters, events, waiters) {
             Check::Failed(why) => Served {
@@ -113,7 +113,7 @@ impl Record {
         kind: u64,
         bytes: u32,
     ) -> Served
-        ensures { outcome (granting_of result.granting) (after result.«record» active configured used counters events waiters) ≡ step (before self active configured used counters events waiters) (request rcid mcid at kind bytes) }
+        ensures { outcome (granting_of result.granting) (state result.«record» active.now configured.now used.new counters.new events.now waiters.now) ≡ step (state self active.now configured.now used.old counters.old events.now waiters.now) (request rcid mcid at kind bytes) }
     {
         self.request_by(
             active,
@@ -146,7 +146,7 @@ impl Record {
         kind: u64,
         bytes: u32,
     ) -> Served
-        ensures { outcome (granting_of result.granting) (after result.«record» active configured used counters events waiters) ≡ step (before self active configured used counters events waiters) (device_request mode word at kind bytes) }
+        ensures { outcome (granting_of result.granting) (state result.«record» active.now configured.now used.new counters.new events.now waiters.now) ≡ step (state self active.now configured.now used.old counters.old events.now waiters.now) (device_request mode word at kind bytes) }
     {
         let ids = identifiers_in(mode, word);
         self.request_by(

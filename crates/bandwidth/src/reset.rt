@@ -5,7 +5,7 @@ ghost use Rattle.bandwidth_model.specs.Calls.{reset};
 ghost use Rattle.bandwidth_model.specs.Rules.{pairs, reset_table};
 ghost use Rattle.bandwidth_model.specs.Model.{step};
 ghost use Rattle.bandwidth_setup.specs.View.{setup_of};
-ghost use Rattle.bandwidth.specs.View.{before, after, outcome, ack_of, reset_row};
+ghost use Rattle.bandwidth.specs.View.{state, outcome, ack_of, reset_row};
 ghost use Rattle.bandwidth.specs.Checked.{Fresh};
 
 use crate::{Acked, Record};
@@ -82,7 +82,7 @@ impl Record {
         waiters: &mut [u64],
         setup: Setup,
     ) -> Acked
-        ensures { outcome (ack_of result.ack) (after result.«record» active configured used counters events waiters) ≡ step (before self active configured used counters events waiters) (reset (setup_of setup)) }
+        ensures { outcome (ack_of result.ack) (state result.«record» active.new configured.new used.new counters.new events.new waiters.new) ≡ step (state self active.old configured.old used.old counters.old events.old waiters.old) (reset (setup_of setup)) }
     {
         if setup.in_range() {
             if self.lengths_ok(setup, active, configured, used, counters, events, waiters) {

@@ -2,7 +2,7 @@
 ghost use Rattle.std.specs.Prelude.{◌≡◌};
 ghost use Rattle.bandwidth_model.specs.Calls.{wait, need};
 ghost use Rattle.bandwidth_model.specs.Model.{step};
-ghost use Rattle.bandwidth.specs.View.{before, after, outcome, ack_of, reading_of};
+ghost use Rattle.bandwidth.specs.View.{state, outcome, ack_of, reading_of};
 
 use crate::check::Check;
 use crate::{Acked, Read, Record};
@@ -26,7 +26,7 @@ impl Record {
         kind: u64,
         bytes: u32,
     ) -> Acked
-        ensures { outcome (ack_of result.ack) (after result.«record» active configured used counters events waiters) ≡ step (before self active configured used counters events waiters) (wait rcid mcid at kind bytes) }
+        ensures { outcome (ack_of result.ack) (state result.«record» active.now configured.now used.now counters.now events.now waiters.new) ≡ step (state self active.now configured.now used.now counters.now events.now waiters.old) (wait rcid mcid at kind bytes) }
     {
         match self.check(active, configured, used, counters, events, waiters) {
             Check::Failed(why) => Acked {
@@ -64,7 +64,7 @@ impl Record {
         waiters: &[u64],
         rcid: u64,
     ) -> Read
-        ensures { outcome (reading_of result.reading) (after result.«record» active configured used counters events waiters) ≡ step (before self active configured used counters events waiters) (need rcid) }
+        ensures { outcome (reading_of result.reading) (state result.«record» active.now configured.now used.now counters.now events.now waiters.now) ≡ step (state self active.now configured.now used.now counters.now events.now waiters.now) (need rcid) }
     {
         match self.check(active, configured, used, counters, events, waiters) {
             Check::Failed(why) => Read {

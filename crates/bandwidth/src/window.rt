@@ -2,7 +2,7 @@
 ghost use Rattle.std.specs.Prelude.{◌≡◌};
 ghost use Rattle.bandwidth_model.specs.Calls.{end_window};
 ghost use Rattle.bandwidth_model.specs.Model.{after_window, step};
-ghost use Rattle.bandwidth.specs.View.{before, after, state, outcome, ack_of};
+ghost use Rattle.bandwidth.specs.View.{state, outcome, ack_of};
 ghost use Rattle.bandwidth.specs.Checked.{Passes};
 
 use crate::check::{Check, Totals};
@@ -24,7 +24,7 @@ impl Record {
         totals: Totals,
     ) -> Record
         requires { Passes (state self active.old configured.now used.old counters.old events.now waiters.old) totals }
-        ensures { after result active configured used counters events waiters ≡ after_window (before self active configured used counters events waiters) }
+        ensures { state result active.new configured.now used.new counters.new events.now waiters.new ≡ after_window (state self active.old configured.now used.old counters.old events.now waiters.old) }
     {
         let setup = self.setup;
         copy32(active, configured);
@@ -46,7 +46,7 @@ impl Record {
         events: &[u16],
         waiters: &mut [u64],
     ) -> Acked
-        ensures { outcome (ack_of result.ack) (after result.«record» active configured used counters events waiters) ≡ step (before self active configured used counters events waiters) end_window }
+        ensures { outcome (ack_of result.ack) (state result.«record» active.new configured.now used.new counters.new events.now waiters.new) ≡ step (state self active.old configured.now used.old counters.old events.now waiters.old) end_window }
     {
         match self.check(active, configured, used, counters, events, waiters) {
             Check::Failed(why) => Acked {

@@ -3,7 +3,6 @@ ghost use Rattle.std.specs.Prelude.{◌≡◌, [], ◌∷◌};
 ghost use Rattle.replies.specs.Replies.{reply};
 ghost use Rattle.bandwidth_model.specs.Calls.{read};
 ghost use Rattle.bandwidth_lent.specs.Bytes.{step_bytes};
-ghost use Rattle.bandwidth_lent.specs.View.{before, after};
 
 use crate::Answer;
 use access::{Reading, refusal_number};
@@ -20,7 +19,7 @@ pub fn read(
     size: u64,
     offset: u64,
 ) -> Answer
-    ensures { reply result.number (result.value ∷ []) (after «record» active configured used counters events waiters) ≡ step_bytes (before «record» active configured used counters events waiters) (read size offset) }
+    ensures { reply result.number (result.value ∷ []) (lent «record».now active.now configured.now used.now counters.now events.now waiters.now) ≡ step_bytes (lent «record».now active.now configured.now used.now counters.now events.now waiters.now) (read size offset) }
 {
     match checked(record, active, configured, used, counters, events, waiters) {
         Check::Failed(number) => Answer { number, value: 0 },

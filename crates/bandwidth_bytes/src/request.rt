@@ -6,7 +6,7 @@ ghost use Rattle.access.specs.Refusals.{number_of};
 ghost use Rattle.bandwidth_model.specs.Calls.{Call, request, device_request};
 ghost use Rattle.bandwidth_model.specs.View.{Requests};
 ghost use Rattle.bandwidth_lent.specs.Bytes.{lent, step_bytes};
-ghost use Rattle.bandwidth_lent.specs.View.{before, after, Passing};
+ghost use Rattle.bandwidth_lent.specs.View.{Passing};
 ghost use Rattle.bandwidth_bytes.specs.View.{Asks, GiveFits, Gave};
 
 use crate::Served;
@@ -93,7 +93,7 @@ fn serve(
     requires { Passing (lent «record».old active.now configured.now used.old counters.old events.now waiters.now) held
         × ((leb held.«record».setup.nr rcid || leb held.«record».setup.nm mcid) ≡ false) }
     ensures { (c : Call) (n : ℕ) → Requests c n rcid mcid at kind bytes
-        → reply 0 (result.reserved ∷ result.pool ∷ []) (after «record» active configured used counters events waiters) ≡ step_bytes (before «record» active configured used counters events waiters) c }
+        → reply 0 (result.reserved ∷ result.pool ∷ []) (lent «record».new active.now configured.now used.new counters.new events.now waiters.now) ≡ step_bytes (lent «record».old active.now configured.now used.old counters.old events.now waiters.now) c }
 {
     let given = held.record;
     let totals = held.totals;
@@ -150,7 +150,7 @@ fn request_by(
 ) -> Served
     requires { Passing (lent «record».old active.now configured.now used.old counters.old events.now waiters.now) held }
     ensures { (c : Call) → Asks c (number_of unknown) rcid mcid at kind bytes
-        → reply result.number (result.grant.reserved ∷ result.grant.pool ∷ []) (after «record» active configured used counters events waiters) ≡ step_bytes (before «record» active configured used counters events waiters) c }
+        → reply result.number (result.grant.reserved ∷ result.grant.pool ∷ []) (lent «record».new active.now configured.now used.new counters.new events.now waiters.now) ≡ step_bytes (lent «record».old active.now configured.now used.old counters.old events.now waiters.now) c }
 {
     let given = held.record;
     let setup = given.setup;
@@ -178,7 +178,7 @@ pub fn request(
     kind: u64,
     bytes: u32,
 ) -> Served
-    ensures { reply result.number (result.grant.reserved ∷ result.grant.pool ∷ []) (after «record» active configured used counters events waiters) ≡ step_bytes (before «record» active configured used counters events waiters) (request rcid mcid at kind bytes) }
+    ensures { reply result.number (result.grant.reserved ∷ result.grant.pool ∷ []) (lent «record».new active.now configured.now used.new counters.new events.now waiters.now) ≡ step_bytes (lent «record».old active.now configured.now used.old counters.old events.now waiters.now) (request rcid mcid at kind bytes) }
 {
     match checked(record, active, configured, used, counters, events, waiters) {
         Check::Failed(number) => refused(number),
@@ -216,7 +216,7 @@ pub fn device_request(
     kind: u64,
     bytes: u32,
 ) -> Served
-    ensures { reply result.number (result.grant.reserved ∷ result.grant.pool ∷ []) (after «record» active configured used counters events waiters) ≡ step_bytes (before «record» active configured used counters events waiters) (device_request mode word at kind bytes) }
+    ensures { reply result.number (result.grant.reserved ∷ result.grant.pool ∷ []) (lent «record».new active.now configured.now used.new counters.new events.now waiters.now) ≡ step_bytes (lent «record».old active.now configured.now used.old counters.old events.now waiters.now) (device_request mode word at kind bytes) }
 {
     match checked(record, active, configured, used, counters, events, waiters) {
         Check::Failed(number) => refused(number),

@@ -3,7 +3,6 @@ ghost use Rattle.std.specs.Prelude.{◌≡◌, [], ◌∷◌};
 ghost use Rattle.replies.specs.Replies.{reply};
 ghost use Rattle.bandwidth_model.specs.Calls.{wait, need};
 ghost use Rattle.bandwidth_lent.specs.Bytes.{step_bytes};
-ghost use Rattle.bandwidth_lent.specs.View.{before, after};
 
 use crate::Answer;
 use access::{Refusal, Verdict, refusal_number};
@@ -25,7 +24,7 @@ pub fn wait(
     kind: u64,
     bytes: u32,
 ) -> u64
-    ensures { reply result [] (after «record» active configured used counters events waiters) ≡ step_bytes (before «record» active configured used counters events waiters) (wait rcid mcid at kind bytes) }
+    ensures { reply result [] (lent «record».now active.now configured.now used.now counters.now events.now waiters.new) ≡ step_bytes (lent «record».now active.now configured.now used.now counters.now events.now waiters.old) (wait rcid mcid at kind bytes) }
 {
     match checked(record, active, configured, used, counters, events, waiters) {
         Check::Failed(number) => number,
@@ -54,7 +53,7 @@ pub fn need(
     waiters: &[u8],
     rcid: u64,
 ) -> Answer
-    ensures { reply result.number (result.value ∷ []) (after «record» active configured used counters events waiters) ≡ step_bytes (before «record» active configured used counters events waiters) (need rcid) }
+    ensures { reply result.number (result.value ∷ []) (lent «record».now active.now configured.now used.now counters.now events.now waiters.now) ≡ step_bytes (lent «record».now active.now configured.now used.now counters.now events.now waiters.now) (need rcid) }
 {
     match checked(record, active, configured, used, counters, events, waiters) {
         Check::Failed(number) => Answer { number, value: 0 },

@@ -3,7 +3,7 @@ ghost use Rattle.std.specs.Prelude.{◌≡◌, []};
 ghost use Rattle.replies.specs.Replies.{reply};
 ghost use Rattle.bandwidth_model.specs.Calls.{end_window};
 ghost use Rattle.bandwidth_lent.specs.Bytes.{lent, step_bytes};
-ghost use Rattle.bandwidth_lent.specs.View.{before, after, Passing};
+ghost use Rattle.bandwidth_lent.specs.View.{Passing};
 
 use bandwidth_lent::{Check, Held, checked};
 use bandwidth_service::{serve_all, weights_of};
@@ -22,7 +22,7 @@ fn open_window(
     waiters: &mut [u8],
 )
     requires { Passing (lent «record».old active.old configured.now used.old counters.old events.now waiters.old) held }
-    ensures { reply 0 [] (after «record» active configured used counters events waiters) ≡ step_bytes (before «record» active configured used counters events waiters) end_window }
+    ensures { reply 0 [] (lent «record».new active.new configured.now used.new counters.new events.now waiters.new) ≡ step_bytes (lent «record».old active.old configured.now used.old counters.old events.now waiters.old) end_window }
 {
     let given = held.record;
     let totals = held.totals;
@@ -50,7 +50,7 @@ pub fn end_window(
     events: &[u8],
     waiters: &mut [u8],
 ) -> u64
-    ensures { reply result [] (after «record» active configured used counters events waiters) ≡ step_bytes (before «record» active configured used counters events waiters) end_window }
+    ensures { reply result [] (lent «record».new active.new configured.now used.new counters.new events.now waiters.new) ≡ step_bytes (lent «record».old active.old configured.now used.old counters.old events.now waiters.old) end_window }
 {
     match checked(record, active, configured, used, counters, events, waiters) {
         Check::Failed(number) => number,

@@ -8,7 +8,7 @@ ghost use Rattle.replies.specs.Replies.{reply};
 ghost use Rattle.bandwidth_model.specs.Calls.{write};
 ghost use Rattle.bandwidth_model.specs.Model.{write_alloc, write_at};
 ghost use Rattle.bandwidth_lent.specs.Bytes.{lent, lent_of, step_bytes};
-ghost use Rattle.bandwidth_lent.specs.View.{before, after, words_in, state_in, Passing};
+ghost use Rattle.bandwidth_lent.specs.View.{words_in, state_in, Passing};
 ghost use Rattle.bandwidth_bytes.specs.View.{Wrote, Stores};
 
 use access::{Verdict, refusal_number, write_verdict};
@@ -75,7 +75,7 @@ fn store(
 ) -> Record
     requires { Passing (lent «record».now active.now configured.old used.now counters.old events.old waiters.now) held }
     ensures { lent (bytes_of_all 8 (words_in result)) active.now configured.new used.now counters.new events.new waiters.now
-        ≡ lent_of (write_at (state_in (before «record» active configured used counters events waiters) held.«record») offset value) }
+        ≡ lent_of (write_at (state_in (lent «record».now active.now configured.old used.now counters.old events.old waiters.now) held.«record») offset value) }
 {
     let mut next = held.record;
     let totals = held.totals;
@@ -116,7 +116,7 @@ pub fn write(
     offset: u64,
     value: u64,
 ) -> u64
-    ensures { reply result [] (after «record» active configured used counters events waiters) ≡ step_bytes (before «record» active configured used counters events waiters) (write size offset value) }
+    ensures { reply result [] (lent «record».new active.now configured.new used.now counters.new events.new waiters.now) ≡ step_bytes (lent «record».old active.now configured.old used.now counters.old events.old waiters.now) (write size offset value) }
 {
     match checked(record, active, configured, used, counters, events, waiters) {
         Check::Failed(number) => number,

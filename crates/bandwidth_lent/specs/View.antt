@@ -1,7 +1,5 @@
 -- Lent bytes as a call finds and leaves them, and what checks 1 to 3 find of them.
 use Rattle.std.specs.Prelude.{◌≡◌, not, List, [], ℕ, ◌+◌, ◌*◌, ◌≤◌, T, length, replicate}
-use Rattle.std.specs.Borrow.{Bor}
-use denote.Triple.Both.{Both}
 use Rattle.words.specs.Words.{words_of, bytes_of_all, table_of, Holds}
 use Rattle.replies.specs.Replies.{refusal}
 use Rattle.bandwidth_setup.specs.View.{setup_of}
@@ -16,18 +14,6 @@ use Rattle.bandwidth_lent.specs.Bytes.{Lent, lent, record_length, record_of, sta
 use Rattle.bandwidth_lent.specs.declared.check.Held.{Held}
 use Rattle.bandwidth_lent.specs.declared.check.Check.{Check}
 use Rattle.bandwidth_lent.specs.declared.check.Check.TheVariants.{Passed, Failed}
-
--- the bytes when a call is made and when it returns, over the places that a contract names; what is lent as & stays
-abbrev pub Slice : Type 0
-Slice = Both (Bor (List ℕ)) (Bor (List ℕ))
-
-abbrev pub before : Slice → Slice → Slice → Slice → Slice → Slice → Slice → Lent
-before r active configured used counters events waiters =
-    lent r.entry.now active.entry.now configured.entry.now used.entry.now counters.entry.now events.entry.now waiters.entry.now
-
-abbrev pub after : Slice → Slice → Slice → Slice → Slice → Slice → Slice → Lent
-after r active configured used counters events waiters =
-    lent r.exit.now active.exit.now configured.exit.now used.exit.now counters.exit.now events.exit.now waiters.exit.now
 
 -- the words of the code's record
 abbrev pub words_in : Record → List ℕ

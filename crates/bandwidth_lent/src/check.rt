@@ -1,5 +1,5 @@
 // Checks 1 to 3 on bytes.
-ghost use Rattle.bandwidth_lent.specs.View.{before, Checked};
+ghost use Rattle.bandwidth_lent.specs.View.{Checked};
 
 use crate::lent::record_refusal;
 use crate::record::load_record;
@@ -33,7 +33,7 @@ pub fn checked(
     events: &[u8],
     waiters: &[u8],
 ) -> Check
-    ensures { Checked (before «record» active configured used counters events waiters) result }
+    ensures { Checked (lent «record».now active.now configured.now used.now counters.now events.now waiters.now) result }
 {
     let why = record_refusal(record, active, configured, used, counters, events, waiters);
     if why != 0 {

@@ -2,7 +2,6 @@
 ghost use Rattle.std.specs.Prelude.{◌≡◌};
 ghost use Rattle.bandwidth_setup.specs.View.{setup_of};
 ghost use Rattle.bandwidth_lent.specs.Bytes.{state_of, byte_refusal};
-ghost use Rattle.bandwidth_lent.specs.View.{before};
 
 use crate::record::load_record;
 use bandwidth_setup::Setup;
@@ -19,7 +18,7 @@ pub fn byte_refusal(
     events: &[u8],
     waiters: &[u8],
 ) -> u64
-    ensures { result ≡ byte_refusal (setup_of setup) (before «record» active configured used counters events waiters) }
+    ensures { result ≡ byte_refusal (setup_of setup) (lent «record».now active.now configured.now used.now counters.now events.now waiters.now) }
 {
     if record.len() != 96 {
         return 1;
@@ -50,7 +49,7 @@ pub fn record_refusal(
     events: &[u8],
     waiters: &[u8],
 ) -> u64
-    ensures { result ≡ byte_refusal (state_of (before «record» active configured used counters events waiters)).setup (before «record» active configured used counters events waiters) }
+    ensures { result ≡ byte_refusal (state_of (lent «record».now active.now configured.now used.now counters.now events.now waiters.now)).setup (lent «record».now active.now configured.now used.now counters.now events.now waiters.now) }
 {
     if record.len() == 96 {
         let setup = load_record(record).setup;

@@ -7,7 +7,7 @@ ghost use Rattle.bandwidth_model.specs.Rules.{pairs, reset_table};
 ghost use Rattle.bandwidth_model.specs.View.{Ranges};
 ghost use Rattle.bandwidth_model.specs.Calls.{reset};
 ghost use Rattle.bandwidth_lent.specs.Bytes.{step_bytes};
-ghost use Rattle.bandwidth_lent.specs.View.{before, after, Tables, Fresh};
+ghost use Rattle.bandwidth_lent.specs.View.{Tables, Fresh};
 
 use crate::lent::byte_refusal;
 use crate::record::store_record;
@@ -65,7 +65,7 @@ pub fn reset(
     waiters: &mut [u8],
     setup: Setup,
 ) -> u64
-    ensures { reply result [] (after «record» active configured used counters events waiters) ≡ step_bytes (before «record» active configured used counters events waiters) (reset (setup_of setup)) }
+    ensures { reply result [] (lent «record».new active.new configured.new used.new counters.new events.new waiters.new) ≡ step_bytes (lent «record».old active.old configured.old used.old counters.old events.old waiters.old) (reset (setup_of setup)) }
 {
     let number = byte_refusal(
         setup, record, active, configured, used, counters, events, waiters,

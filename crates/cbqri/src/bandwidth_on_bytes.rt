@@ -3,7 +3,6 @@ ghost use Rattle.std.specs.Prelude.{◌≡◌, [], ◌∷◌};
 ghost use Rattle.bandwidth_model.specs.Calls.{reset, read, write, request, end_window};
 ghost use Rattle.replies.specs.Replies.{reply};
 ghost use Rattle.bandwidth_lent.specs.Bytes.{setup_by, step_bytes};
-ghost use Rattle.bandwidth_lent.specs.View.{before, after};
 
 use bandwidth_setup::Setup;
 
@@ -24,8 +23,8 @@ pub extern "C" fn cbqri_bandwidth_reset(
     events: &mut [u8],
     waiters: &mut [u8],
 ) -> u64
-    ensures { reply result [] (after «record» active configured used counters events waiters)
-        ≡ step_bytes (before «record» active configured used counters events waiters) (reset (setup_by nbwblks mrbwb nr na nm q w)) }
+    ensures { reply result [] (lent «record».new active.new configured.new used.new counters.new events.new waiters.new)
+        ≡ step_bytes (lent «record».old active.old configured.old used.old counters.old events.old waiters.old) (reset (setup_by nbwblks mrbwb nr na nm q w)) }
 {
     let setup = Setup {
         nbwblks,
@@ -54,8 +53,8 @@ pub extern "C" fn cbqri_bandwidth_read(
     offset: u64,
     value: &mut u64,
 ) -> u64
-    ensures { reply result (value.new ∷ []) (after «record» active configured used counters events waiters)
-        ≡ step_bytes (before «record» active configured used counters events waiters) (read size offset) }
+    ensures { reply result (value.new ∷ []) (lent «record».now active.now configured.now used.now counters.now events.now waiters.now)
+        ≡ step_bytes (lent «record».now active.now configured.now used.now counters.now events.now waiters.now) (read size offset) }
 {
     let answer = bandwidth_bytes::read::read(
         record, active, configured, used, counters, events, waiters, size, offset,
@@ -77,8 +76,8 @@ pub extern "C" fn cbqri_bandwidth_write(
     offset: u64,
     value: u64,
 ) -> u64
-    ensures { reply result [] (after «record» active configured used counters events waiters)
-        ≡ step_bytes (before «record» active configured used counters events waiters) (write size offset value) }
+    ensures { reply result [] (lent «record».new active.now configured.new used.now counters.new events.new waiters.now)
+        ≡ step_bytes (lent «record».old active.now configured.old used.now counters.old events.old waiters.now) (write size offset value) }
 {
     bandwidth_bytes::write::write(
         record, active, configured, used, counters, events, waiters, size, offset, value,
@@ -102,8 +101,8 @@ pub extern "C" fn cbqri_bandwidth_request(
     reserved: &mut u64,
     pool: &mut u64,
 ) -> u64
-    ensures { reply result (reserved.new ∷ pool.new ∷ []) (after «record» active configured used counters events waiters)
-        ≡ step_bytes (before «record» active configured used counters events waiters) (request rcid mcid at kind bytes) }
+    ensures { reply result (reserved.new ∷ pool.new ∷ []) (lent «record».new active.now configured.now used.new counters.new events.now waiters.now)
+        ≡ step_bytes (lent «record».old active.now configured.now used.old counters.old events.now waiters.now) (request rcid mcid at kind bytes) }
 {
     let served = bandwidth_bytes::request::request(
         record, active, configured, used, counters, events, waiters, rcid, mcid, at, kind, bytes,
@@ -124,8 +123,8 @@ pub extern "C" fn cbqri_bandwidth_end_window(
     events: &[u8],
     waiters: &mut [u8],
 ) -> u64
-    ensures { reply result [] (after «record» active configured used counters events waiters)
-        ≡ step_bytes (before «record» active configured used counters events waiters) end_window }
+    ensures { reply result [] (lent «record».new active.new configured.now used.new counters.new events.now waiters.new)
+        ≡ step_bytes (lent «record».old active.old configured.now used.old counters.old events.now waiters.old) end_window }
 {
     bandwidth_bytes::window::end_window(record, active, configured, used, counters, events, waiters)
 }

@@ -3,7 +3,6 @@ ghost use Rattle.std.specs.Prelude.{◌≡◌, [], ◌∷◌};
 ghost use Rattle.capacity_model.specs.Calls.{reset, read, write, fill, evict};
 ghost use Rattle.replies.specs.Replies.{reply};
 ghost use Rattle.capacity_bytes.specs.Bytes.{setup_by, step_bytes};
-ghost use Rattle.capacity_bytes.specs.View.{before, after};
 
 use capacity_masks::Setup;
 
@@ -21,7 +20,7 @@ pub extern "C" fn cbqri_capacity_reset(
     events: &mut [u8],
     owners: &mut [u8],
 ) -> u64
-    ensures { reply result [] (after «record» masks counters events owners) ≡ step_bytes (before «record» masks counters events owners) (reset (setup_by ncblks nr na nm w u)) }
+    ensures { reply result [] (lent «record».new masks.new counters.new events.new owners.new) ≡ step_bytes (lent «record».old masks.old counters.old events.old owners.old) (reset (setup_by ncblks nr na nm w u)) }
 {
     let setup = Setup {
         ncblks,
@@ -45,7 +44,7 @@ pub extern "C" fn cbqri_capacity_read(
     offset: u64,
     value: &mut u64,
 ) -> u64
-    ensures { reply result (value.new ∷ []) (after «record» masks counters events owners) ≡ step_bytes (before «record» masks counters events owners) (read size offset) }
+    ensures { reply result (value.new ∷ []) (lent «record».now masks.now counters.now events.now owners.now) ≡ step_bytes (lent «record».now masks.now counters.now events.now owners.now) (read size offset) }
 {
     let answered = capacity_bytes::read(record, masks, counters, events, owners, size, offset);
     *value = answered.value;
@@ -63,7 +62,7 @@ pub extern "C" fn cbqri_capacity_write(
     offset: u64,
     value: u64,
 ) -> u64
-    ensures { reply result [] (after «record» masks counters events owners) ≡ step_bytes (before «record» masks counters events owners) (write size offset value) }
+    ensures { reply result [] (lent «record».new masks.new counters.new events.new owners.new) ≡ step_bytes (lent «record».old masks.old counters.old events.old owners.old) (write size offset value) }
 {
     capacity_bytes::write(record, masks, counters, events, owners, size, offset, value)
 }
@@ -81,7 +80,7 @@ pub extern "C" fn cbqri_capacity_fill(
     unit: u64,
     allowed: &mut u64,
 ) -> u64
-    ensures { reply result (allowed.new ∷ []) (after «record» masks counters events owners) ≡ step_bytes (before «record» masks counters events owners) (fill rcid mcid at unit) }
+    ensures { reply result (allowed.new ∷ []) (lent «record».new masks.now counters.new events.now owners.new) ≡ step_bytes (lent «record».old masks.now counters.old events.now owners.old) (fill rcid mcid at unit) }
 {
     let answered = capacity_bytes::fill(
         record, masks, counters, events, owners, rcid, mcid, at, unit,
@@ -99,7 +98,7 @@ pub extern "C" fn cbqri_capacity_evict(
     owners: &mut [u8],
     unit: u64,
 ) -> u64
-    ensures { reply result [] (after «record» masks counters events owners) ≡ step_bytes (before «record» masks counters events owners) (evict unit) }
+    ensures { reply result [] (lent «record».new masks.now counters.new events.now owners.new) ≡ step_bytes (lent «record».old masks.now counters.old events.now owners.old) (evict unit) }
 {
     capacity_bytes::evict(record, masks, counters, events, owners, unit)
 }

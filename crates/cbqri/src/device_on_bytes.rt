@@ -3,7 +3,6 @@ ghost use Rattle.std.specs.Prelude.{◌≡◌, [], ◌∷◌};
 ghost use Rattle.bandwidth_model.specs.Calls.{device_request};
 ghost use Rattle.replies.specs.Replies.{reply};
 ghost use Rattle.bandwidth_lent.specs.Bytes.{step_bytes};
-ghost use Rattle.bandwidth_lent.specs.View.{before, after};
 
 #[unsafe(no_mangle)]
 pub extern "C" fn cbqri_bandwidth_device_request(
@@ -22,8 +21,8 @@ pub extern "C" fn cbqri_bandwidth_device_request(
     reserved: &mut u64,
     pool: &mut u64,
 ) -> u64
-    ensures { reply result (reserved.new ∷ pool.new ∷ []) (after «record» active configured used counters events waiters)
-        ≡ step_bytes (before «record» active configured used counters events waiters) (device_request mode word at kind bytes) }
+    ensures { reply result (reserved.new ∷ pool.new ∷ []) (lent «record».new active.now configured.now used.new counters.new events.now waiters.now)
+        ≡ step_bytes (lent «record».old active.now configured.now used.old counters.old events.now waiters.now) (device_request mode word at kind bytes) }
 {
     let served = bandwidth_bytes::request::device_request(
         record, active, configured, used, counters, events, waiters, mode, word, at, kind, bytes,

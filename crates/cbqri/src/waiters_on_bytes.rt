@@ -4,7 +4,6 @@ ghost use Rattle.bandwidth_model.specs.Calls.{wait};
 ghost use Rattle.bandwidth_model.specs.Calls as calls;
 ghost use Rattle.replies.specs.Replies.{reply};
 ghost use Rattle.bandwidth_lent.specs.Bytes.{step_bytes};
-ghost use Rattle.bandwidth_lent.specs.View.{before, after};
 
 #[unsafe(no_mangle)]
 pub extern "C" fn cbqri_bandwidth_wait(
@@ -21,8 +20,8 @@ pub extern "C" fn cbqri_bandwidth_wait(
     kind: u64,
     bytes: u32,
 ) -> u64
-    ensures { reply result [] (after «record» active configured used counters events waiters)
-        ≡ step_bytes (before «record» active configured used counters events waiters) (wait rcid mcid at kind bytes) }
+    ensures { reply result [] (lent «record».now active.now configured.now used.now counters.now events.now waiters.new)
+        ≡ step_bytes (lent «record».now active.now configured.now used.now counters.now events.now waiters.old) (wait rcid mcid at kind bytes) }
 {
     bandwidth_bytes::wait::wait(
         record, active, configured, used, counters, events, waiters, rcid, mcid, at, kind, bytes,
@@ -41,8 +40,8 @@ pub extern "C" fn cbqri_bandwidth_need(
     rcid: u64,
     need: &mut u64,
 ) -> u64
-    ensures { reply result (need.new ∷ []) (after «record» active configured used counters events waiters)
-        ≡ step_bytes (before «record» active configured used counters events waiters) (calls.need rcid) }
+    ensures { reply result (need.new ∷ []) (lent «record».now active.now configured.now used.now counters.now events.now waiters.now)
+        ≡ step_bytes (lent «record».now active.now configured.now used.now counters.now events.now waiters.now) (calls.need rcid) }
 {
     let answer = bandwidth_bytes::wait::need(
         record, active, configured, used, counters, events, waiters, rcid,

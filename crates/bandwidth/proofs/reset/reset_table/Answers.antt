@@ -11,17 +11,17 @@ use Rattle.bandwidth.proofs.reset.reset_table.Goals as goal
 
 pub slice_bounds-reset_row-end : goal.slice_bounds-reset_row-end
 slice_bounds-reset_row-end c =
-    omega (arith, first_inside _ c.requires.0, c.requires.1, c.fill32.auto.0)
+    omega (arith, first_inside _ c.requires.0, c.requires.1, c.fill32.auto.t)
 
 pub slice_bounds-reset_row-end-2 : goal.slice_bounds-reset_row-end-2
 slice_bounds-reset_row-end-2 c =
-    simp length-take (omega (arith, first_inside _ c.requires.0, c.requires.1, c.fill32.auto.0))
+    simp length-take (omega (arith, first_inside _ c.requires.0, c.requires.1, c.fill32.auto.t))
 
 pub returns : goal.returns
 returns c =
     let su = setup_of c.args.setup in
     let f = c.fill32 in
-    let long : length (take su.na f.new.0) ≡ su.na = simp length-take (omega (arith, first_inside su c.requires.0, c.requires.1, f.auto.0)) in
-    let zeros : f.new.0 ≡ replicate (pairs su) 0 = f.ensures ∙ ap (λ (n : ℕ). replicate n 0) c.requires.1 in
-    let row : c.reset_row.new.1.0 ≡ reset_row su su.na = c.reset_row.ensures ∙ ap (reset_row su) long in
+    let long : length (take su.na f.new.t) ≡ su.na = simp length-take (omega (arith, first_inside su c.requires.0, c.requires.1, f.auto.t)) in
+    let zeros : f.new.t ≡ replicate (pairs su) 0 = f.ensures ∙ ap (λ (n : ℕ). replicate n 0) c.requires.1 in
+    let row : c.reset_row.new.row ≡ reset_row su su.na = c.reset_row.ensures ∙ ap (reset_row su) long in
     rw (row, zeros) (reset_words su c.requires.0)
