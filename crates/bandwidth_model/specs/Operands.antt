@@ -10,7 +10,7 @@ use Rattle.bandwidth_model.specs.Model.{table_ok}
 abbrev pub board : Setup
 board = record { nbwblks = 100; mrbwb = 80; nr = 2; na = 4; nm = 1; q = 64; w = 24 }
 
--- the word with use_shared 1, this shared_at and 0 elsewhere
+-- the word with useShared 1, this sharedAT and 0 elsewhere
 abbrev pub sharing : ℕ → ℕ
 sharing at = 0x80000000 + at * 0x10000000
 
@@ -22,7 +22,7 @@ table = 30 ∷ sharing 0 ∷ 10 ∷ 0 ∷ 15 ∷ 5 ∷ 0 ∷ 0 ∷ []
 pub data Case : Type 0 where
   operand : ℕ → ℕ → ℕ → List Bool → Bool → Case
 
--- ---- use_shared 0
+-- ---- useShared 0
 
 -- Rbwb is 0; Rbwb plus the Rbwb of every other holder exceeds MRBWB
 unfoldable pub as_holder : List ℕ → Case → Case
@@ -43,7 +43,7 @@ holders =
     ∷ operand 0 0 50 (false ∷ false ∷ []) false
     -- a sharer becomes a holder
     ∷ operand 0 1 20 (false ∷ false ∷ []) false
-    -- shared_at is this AT, which no clause asks for
+    -- sharedAT is this AT, which no clause asks for
     ∷ operand 0 3 0x30000014 (false ∷ false ∷ []) false
     ∷ []
 
@@ -51,9 +51,9 @@ holders =
 abbrev pub blocks_of_sharer : List ℕ
 blocks_of_sharer = 60 ∷ (sharing 0 + 25) ∷ 0 ∷ 0 ∷ 0 ∷ 0 ∷ 0 ∷ 0 ∷ []
 
--- ---- use_shared 1
+-- ---- useShared 1
 
--- shared_at is this AT; is at or above NA; is no holder under the same RCID; another AT of this RCID shares this one
+-- sharedAT is this AT; is at or above NA; is no holder under the same RCID; another AT of this RCID shares this one
 unfoldable pub as_sharer : List ℕ → Case → Case
 as_sharer t (operand rcid at word clauses bad) =
     operand rcid at word

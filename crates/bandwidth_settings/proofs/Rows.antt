@@ -54,7 +54,7 @@ unfolding any_below
 any_same zero p q h = refl
 any_same (suc n) p q h = rw (any_same n p q (λ k b. h k (omega arith)), h n (omega arith))
 
--- whether shared_at is a holder counts only where it lies below NA
+-- whether sharedAT is a holder counts only where it lies below NA
 holder_asked : (own high x y shared : Bool) → (T (not high) → x ≡ y) → (own || high || not x || shared) ≡ (own || high || not y || shared)
 holder_asked true high x y shared h = refl
 holder_asked false true x y shared h = refl

@@ -10,7 +10,7 @@ use Rattle.bandwidth_model.specs.Rules.{Setup, rbwb_of, shared_at_of, use_shared
 use Rattle.bandwidth_model.specs.View.{Ranges}
 use Rattle.bandwidth_model.specs.Model.{Allocation}
 
--- use_shared 0: bad if Rbwb is 0, or Rbwb plus the Rbwb of every other configured holder exceeds MRBWB
+-- useShared 0: bad if Rbwb is 0, or Rbwb plus the Rbwb of every other configured holder exceeds MRBWB
 unfoldable pub bad_holder_in : Setup → ℕ → List ℕ → ℕ → ℕ → Bool
 bad_holder_in su sum row at word = rbwb_of word == 0 || su.mrbwb <? rbwb_of word + (sum - reserved (row ‼ at))
 
@@ -20,7 +20,7 @@ shares_in row at b =
     let word = row ‼ b in
     not (b == at) && is_sharer word && shared_at_of word == at
 
--- use_shared 1: bad if shared_at is this AT, is at or above NA, or is no holder, or if another AT shares this one
+-- useShared 1: bad if sharedAT is this AT, is at or above NA, or is no holder, or if another AT shares this one
 unfoldable pub bad_sharer_in : Setup → List ℕ → ℕ → ℕ → Bool
 bad_sharer_in su row at word =
     let b = shared_at_of word in

@@ -58,7 +58,7 @@ fn holder_word(rbwb: u64, mweight: u64) -> u64
     holder.pack()
 }
 
-// The word that CONFIG_LIMIT stores: a holder's without shared_at, a sharer's without Rbwb and Mweight.
+// The word that CONFIG_LIMIT stores: a holder's without sharedAT, a sharer's without Rbwb and Mweight.
 pub fn stored_word(word: u64) -> u64
     ensures { Small (stored_form word) 4294967295 result }
 {

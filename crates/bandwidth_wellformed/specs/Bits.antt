@@ -4,7 +4,7 @@ use Rattle.std.specs.Int.Bits.{bit_and, bit_or, bit_xor}
 use Rattle.tables.specs.Below.{sum_below}
 use Rattle.tables.specs.View.{union_below}
 
--- the bits of a settings word that may not be there: unnamed ones, the Mweight of a word with no Rbwb, use_shared and shared_at beside an Rbwb
+-- the bits of a settings word that may not be there: unnamed ones, the Mweight of a word with no Rbwb, useShared and sharedAT beside an Rbwb
 unfoldable pub form_bits : ℕ → ℕ
 form_bits w = bit_and w (cond (eqb (w % 65536) 0) 0x0fffffff 0xf00f0000)
 
