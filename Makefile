@@ -7,7 +7,7 @@ help:
 
 # make run: prove and build the listing program, and run the worked example (rule T7) on it; 5 to 9 minutes the first time
 run:
-	@mkdir -p target && tests/progress target/run.log rt check listing >&2
+	@mkdir -p target && tests/progress target/run.log tools/check listing >&2
 	@$(MAKE) --no-print-directory target/listing
 	@target/listing crates/listing/stdin
 
@@ -17,12 +17,16 @@ test:
 
 # target/listing: the proved program as it was compiled, with listing/main.c around it
 PROVED = target/obj/listing.o
+# what std calls besides the C library
+KIT_C = $(wildcard $(dir $(shell rt doc))c/*.a)
 target/listing: listing/main.c include/cbqri.h $(PROVED)
 	@objcopy --redefine-sym main=proved_listing --redefine-sym read=listing_read --redefine-sym write=listing_write $(PROVED) $@.o
-	@cc -std=c11 -Wall -Wextra -Wpedantic -O2 -Iinclude $< $@.o -o $@
+	@cc -std=c11 -Wall -Wextra -Wpedantic -O2 -Iinclude $< $@.o $(KIT_C) -o $@
 
-$(PROVED):
-	@echo "$@ is not there: run make test or make run, which prove and build it"; exit 2
+# a crate's sources
+sources = $(shell find $(1) -name out -prune -o \( -name '*.rt' -o -name '*.antt' \) -print)
+$(PROVED): tools/build KIT crates.txt $(call sources,crates)
+	@mkdir -p target && tools/build listing $@ >target/listing.log 2>&1 || { tail -n 20 target/listing.log; exit 1; }
 
 # make quick: before a commit: what changed since BASE (origin/main, else the commit before the last) and all above it
 quick:
@@ -63,8 +67,8 @@ $(LIB):
 
 # make fmt: every .rt and .antt file in rt fmt's layout
 fmt:
-	rt fmt
+	@for crate in crates/*/; do (cd "$$crate" && rt fmt) || exit 1; done
 
-# make clean: removes target/, with all that was proved
+# make clean: removes target/ and each crate's out/, with all that was proved
 clean:
-	rm -rf target
+	rm -rf target crates/*/out
