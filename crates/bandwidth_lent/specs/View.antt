@@ -10,7 +10,7 @@ use Rattle.bandwidth_model.specs.Model.{State}
 use Rattle.bandwidth.specs.declared.Record.{Record}
 use Rattle.bandwidth.specs.View.{state}
 use Rattle.bandwidth.specs.Checked.{Passes}
-use Rattle.bandwidth_lent.specs.Bytes.{Lent, lent, record_length, record_of, state_of, pointers, byte_refusal, step_bytes}
+use Rattle.bandwidth_lent.specs.Bytes.{Lent, record_length, record_of, state_of, pointers, byte_refusal, step_bytes}
 use Rattle.bandwidth_lent.specs.declared.check.Held.{Held}
 use Rattle.bandwidth_lent.specs.declared.check.Check.{Check}
 use Rattle.bandwidth_lent.specs.declared.check.Check.TheVariants.{Passed, Failed}

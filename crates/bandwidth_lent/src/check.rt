@@ -1,4 +1,5 @@
 // Checks 1 to 3 on bytes.
+ghost use Rattle.bandwidth_lent.specs.Bytes.{lent};
 ghost use Rattle.bandwidth_lent.specs.View.{Checked};
 
 use crate::lent::record_refusal;

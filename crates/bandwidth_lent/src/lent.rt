@@ -1,7 +1,7 @@
 // The lengths of the lent bytes: checks 1 and 2.
 ghost use Rattle.std.specs.Prelude.{◌≡◌};
 ghost use Rattle.bandwidth_setup.specs.View.{setup_of};
-ghost use Rattle.bandwidth_lent.specs.Bytes.{state_of, byte_refusal};
+ghost use Rattle.bandwidth_lent.specs.Bytes.{lent, state_of, byte_refusal};
 
 use crate::record::load_record;
 use bandwidth_setup::Setup;

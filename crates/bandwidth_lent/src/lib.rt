@@ -1,5 +1,6 @@
 // What is lent to a bandwidth controller as little-endian bytes: its record loaded and stored, resets, and checks 1 to 3, the tables in parts.
 #![tactic(auto)]
+
 mod check;
 mod lent;
 mod record;

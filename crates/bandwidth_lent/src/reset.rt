@@ -6,7 +6,7 @@ ghost use Rattle.replies.specs.Replies.{reply};
 ghost use Rattle.bandwidth_model.specs.Rules.{pairs, reset_table};
 ghost use Rattle.bandwidth_model.specs.View.{Ranges};
 ghost use Rattle.bandwidth_model.specs.Calls.{reset};
-ghost use Rattle.bandwidth_lent.specs.Bytes.{step_bytes};
+ghost use Rattle.bandwidth_lent.specs.Bytes.{lent, step_bytes};
 ghost use Rattle.bandwidth_lent.specs.View.{Tables, Fresh};
 
 use crate::lent::byte_refusal;
