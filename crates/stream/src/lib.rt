@@ -1,5 +1,6 @@
 // Lines answered as they come in, however the input is cut into chunks.
 #![tactic(auto)]
+
 ghost use Rattle.std.specs.Prelude.{◌≡◌, ◌++◌, ◌+◌, ◌*◌, ◌≤◌, length, take};
 ghost use Rattle.print.specs.Print.{line_room};
 ghost use Rattle.session.specs.View.{controller_of, Tables, KeptFrom};
