@@ -1,6 +1,6 @@
 -- A request on the words of its RCID, one for each AT: its holder, what it is granted, and what is used then.
-use Rattle.std.specs.Prelude.{◌≡◌, List, ℕ, ◌+◌, ◌-◌, ◌*◌, ◌^◌, ◌≤◌, ◌<◌, min}
-use Rattle.tables.specs.Notation.{if◌then◌else◌, ◌==◌, ◌‼◌}
+use Rattle.std.specs.Prelude.{◌≡◌, List, ℕ, ◌+◌, ◌-◌, ◌*◌, ◌^◌, ◌≤◌, ◌<◌, min, if◌then◌else◌, ◌==◌}
+use Rattle.tables.specs.Notation.{◌‼◌}
 use Rattle.bandwidth_model.specs.Rules.{Setup, weight_of, shared_at_of, is_holder, is_sharer, Holder, nobody, held}
 use Rattle.bandwidth_model.specs.View.{Ranges}
 use Rattle.bandwidth_model.specs.Calls.{Grant, nothing, grant_sum}
@@ -11,7 +11,7 @@ use Rattle.bandwidth_grants.specs.View.{usage}
 unfoldable pub holder_in : List ℕ → ℕ → Holder
 holder_in row at =
     let word = row ‼ at in
-    if is_holder word then held at else if is_sharer word then held (shared_at_of word) else nobody
+    if is_holder word then held at else (if is_sharer word then held (shared_at_of word) else nobody)
 
 -- the rest comes from the pool if the holder's own Mweight is not 0; all holders in force reserve so many blocks
 unfoldable pub pool_in : Setup → ℕ → List ℕ → ℕ → ℕ → ℕ → ℕ

@@ -1,5 +1,6 @@
 -- The deadline of a waiter (rule Q7): it is done within its bytes divided by what its holder reserves, rounded up, window ends.
-use Rattle.access.specs.Logic.{◌≡◌, Bool, true, false, ◌&&◌, ◌||◌, List, [], ◌∷◌, ◌++◌, ℕ, ◌+◌, ◌-◌, ◌*◌, ◌/◌, ◌≤◌, T, if◌then◌else◌, ◌<?◌}
+use Rattle.std.specs.Prelude.{◌≡◌, Bool, true, false, ◌&&◌, ◌||◌, List, [], ◌∷◌, ◌++◌, ℕ, ◌+◌, ◌-◌, ◌*◌, ◌/◌, ◌≤◌, T, if◌then◌else◌}
+use Rattle.tables.specs.Notation.{◌<?◌}
 use Rattle.runs.specs.Runs.{event, after, events, untouched, Always}
 use Rattle.access.specs.Pairs.{known_at}
 use Rattle.bandwidth_model.specs.Rules.{reserved, holder_of}

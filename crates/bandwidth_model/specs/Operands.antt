@@ -1,5 +1,6 @@
 -- The operand rules of CONFIG_LIMIT clause by clause: operands that are bad by one clause alone, and operands that are good.
-use Rattle.access.specs.Logic.{◌≡◌, Bool, true, false, not, List, [], ◌∷◌, ℕ, ◌+◌, ◌*◌, set, ◌==◌, ◌≤?◌, ◌<?◌}
+use Rattle.std.specs.Prelude.{◌≡◌, Bool, true, false, not, List, [], ◌∷◌, ℕ, ◌+◌, ◌*◌, set, ◌==◌}
+use Rattle.tables.specs.Notation.{◌≤?◌, ◌<?◌}
 use Rattle.std.specs.Prelude.{map}
 use Rattle.tables.specs.Below.{any_below}
 use Rattle.access.specs.Pairs.{pair, word_at}

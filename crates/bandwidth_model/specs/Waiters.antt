@@ -1,5 +1,6 @@
 -- Requests that wait (rules Q1 to Q7), over numbers and tables of words: what a waiter's word holds, and what waiters are served as a window opens. Model, ledger and tally all follow these.
-use Rattle.access.specs.Logic.{Bool, ◌&&◌, ◌||◌, List, [], ◌∷◌, ℕ, ◌+◌, ◌-◌, ◌*◌, ◌/◌, ◌^◌, min, set, if◌then◌else◌, ◌==◌, ◌≤?◌, ◌<?◌, ◌‼◌}
+use Rattle.std.specs.Prelude.{Bool, ◌&&◌, ◌||◌, List, [], ◌∷◌, ℕ, ◌+◌, ◌-◌, ◌*◌, ◌/◌, ◌^◌, min, set, if◌then◌else◌, ◌==◌}
+use Rattle.tables.specs.Notation.{◌≤?◌, ◌<?◌, ◌‼◌}
 use Rattle.std.specs.Prelude.{zero, suc}
 use Rattle.fields.specs.Layout.{get, pack, named_bits}
 use Rattle.fields.specs.Registers as reg

@@ -1,6 +1,6 @@
 -- The operand rules and the operations of alloc_ctl by the configured words of one RCID, one for each AT; sum is what all configured holders reserve.
-use Rattle.std.specs.Prelude.{Bool, not, ◌&&◌, ◌||◌, List, ℕ, ◌+◌, ◌-◌, ◌≤◌}
-use Rattle.tables.specs.Notation.{if◌then◌else◌, ◌==◌, ◌≤?◌, ◌<?◌, ◌‼◌}
+use Rattle.std.specs.Prelude.{Bool, not, ◌&&◌, ◌||◌, List, ℕ, ◌+◌, ◌-◌, ◌≤◌, if◌then◌else◌, ◌==◌}
+use Rattle.tables.specs.Notation.{◌≤?◌, ◌<?◌, ◌‼◌}
 use Rattle.tables.specs.Below.{any_below}
 use Rattle.fields.specs.Registers as reg
 use Rattle.allocation.specs.Allocation.{at_of, alloc_word, operation_status, succeeds, table_after}

@@ -1,6 +1,6 @@
 -- A window's service as the code makes it: the turn of each RCID, in rising order, on the tables as the turns before it left them.
-use Rattle.std.specs.Prelude.{◌≡◌, List, ℕ, zero, suc, ◌*◌, ◌^◌, ◌≤◌, ◌<◌, T, length, set}
-use Rattle.tables.specs.Notation.{if◌then◌else◌, ◌==◌, ◌‼◌}
+use Rattle.std.specs.Prelude.{◌≡◌, List, ℕ, zero, suc, ◌*◌, ◌^◌, ◌≤◌, ◌<◌, T, length, set, if◌then◌else◌, ◌==◌}
+use Rattle.tables.specs.Notation.{◌‼◌}
 use Rattle.monitor.specs.Bytes.{counts_request, added}
 use Rattle.bandwidth_model.specs.Rules.{Setup, pairs, Holder, holder_of}
 use Rattle.bandwidth_model.specs.View.{Ranges}

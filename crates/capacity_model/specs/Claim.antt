@@ -1,5 +1,6 @@
 -- What is claimed of the capacity controller after any list of calls that an accepted reset opens, by the ledger.
-use Rattle.access.specs.Logic.{◌≡◌, Bool, List, ℕ, ◌‼◌}
+use Rattle.std.specs.Prelude.{◌≡◌, Bool, List, ℕ}
+use Rattle.tables.specs.Notation.{◌‼◌}
 use Rattle.runs.specs.Runs.{Machine, step_of, Always}
 use Rattle.runs.specs.Claims.{Book, whole, Reads, AllCounted, Lasting}
 use Rattle.runs.specs.ByNumber as number

@@ -1,5 +1,6 @@
 -- What is claimed of the counter of an MCID that owned no unit when it was configured: it tells how many units the MCID owns.
-use Rattle.access.specs.Logic.{◌≡◌, Bool, false, ◌&&◌, ◌||◌, List, ◌∷◌, ℕ, ◌*◌, T, ◌==◌, ◌‼◌}
+use Rattle.std.specs.Prelude.{◌≡◌, Bool, false, ◌&&◌, ◌||◌, List, ◌∷◌, ℕ, ◌*◌, T, ◌==◌}
+use Rattle.tables.specs.Notation.{◌‼◌}
 use Rattle.runs.specs.Runs.{Event, event, after, events, untouched, step_of, note_of, Always}
 use Rattle.access.specs.Access as access
 use Rattle.access.specs.Checks.{on_write}

@@ -1,5 +1,5 @@
 -- The RCID and MCID of a device's request, where an IOMMU stands before the controller (rules V1 to V3 and R9).
-use Rattle.access.specs.Logic.{Bool, not, ◌||◌, ℕ, if◌then◌else◌, ◌==◌}
+use Rattle.std.specs.Prelude.{Bool, not, ◌||◌, ℕ, if◌then◌else◌, ◌==◌}
 use Rattle.fields.specs.Layout.{get}
 use Rattle.fields.specs.Registers.{qosid_rcid, qosid_mcid, ta_rcid, ta_mcid}
 use Rattle.access.specs.declared.Refusal.TheVariants.{Identifier, DeviceContext}

@@ -1,5 +1,6 @@
 -- A tally of what each MCID counted, by calls and answers alone, in counts of any type.
-use Rattle.access.specs.Logic.{Bool, not, ◌&&◌, List, ℕ, get_or, set, replicate, if◌then◌else◌, ◌‼◌}
+use Rattle.std.specs.Prelude.{Bool, not, ◌&&◌, List, ℕ, get_or, set, replicate, if◌then◌else◌}
+use Rattle.tables.specs.Notation.{◌‼◌}
 use Rattle.codes.specs.Codes.{◌has◌, no_event}
 use Rattle.codes.specs.declared.Resource.{Resource}
 use Rattle.codes.specs.declared.MonOp.{MonOp}

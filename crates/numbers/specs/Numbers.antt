@@ -3,7 +3,8 @@ use mathlib.Core.Bool.{Bool}
 use mathlib.Core.List.{List, [], ◌∷◌, ◌++◌}
 use Prim.Native.Nat.{ℕ, zero, suc, ◌+◌, ◌*◌, ◌/◌, ◌%◌, ◌^◌}
 use lib.ListN.{length}
-use Rattle.tables.specs.Notation.{if◌then◌else◌, ◌==◌, ◌‼◌}
+use Rattle.std.specs.Prelude.{if◌then◌else◌, ◌==◌}
+use Rattle.tables.specs.Notation.{◌‼◌}
 use Rattle.tables.specs.Below.{sum_below}
 use Rattle.tables.specs.Parts.{with_part}
 

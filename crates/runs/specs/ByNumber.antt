@@ -1,5 +1,6 @@
 -- The decisions on OP and EVT_ID by their numbers alone, without the rows of the standard's tables, and the claim that the decisions by rows are the same.
-use Rattle.access.specs.Logic.{◌≡◌, Bool, false, not, ◌&&◌, ◌||◌, List, [], ◌∷◌, ℕ, set, if◌then◌else◌, ◌==◌, ◌≤?◌, ◌<?◌, ◌‼◌}
+use Rattle.std.specs.Prelude.{◌≡◌, Bool, false, not, ◌&&◌, ◌||◌, List, [], ◌∷◌, ℕ, set, if◌then◌else◌, ◌==◌}
+use Rattle.tables.specs.Notation.{◌≤?◌, ◌<?◌, ◌‼◌}
 use Rattle.fields.specs.Layout.{get, pack, named_bits}
 use Rattle.fields.specs.Registers as reg
 use Rattle.access.specs.Checks.{◌gives◌, first}

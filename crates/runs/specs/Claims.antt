@@ -1,5 +1,7 @@
 -- What is claimed of both controllers alike: of the state and of notes of calls and answers, after any list of calls that an accepted reset opens.
-use Rattle.access.specs.Logic.{◌≡◌, Bool, not, ◌&&◌, ◌||◌, List, [], ◌∷◌, List-as-Memᴰ, ◌↔◌, ℕ, ◌*◌, ◌<◌, T, get_or, if◌then◌else◌, ◌==◌, ◌≤?◌, ◌‼◌}
+use Rattle.std.specs.Prelude.{◌≡◌, Bool, not, ◌&&◌, ◌||◌, List, [], ◌∷◌, ◌↔◌, ℕ, ◌*◌, ◌<◌, T, get_or, if◌then◌else◌, ◌==◌}
+use mathlib.Core.List.{Memᴰ}
+use Rattle.tables.specs.Notation.{◌≤?◌, ◌‼◌}
 use Rattle.fields.specs.Layout.{unpack}
 use Rattle.fields.specs.Registers as reg
 use Rattle.access.specs.declared.Refusal.TheVariants.{State}
@@ -131,7 +133,7 @@ module _ {S U C A L X : Type 0} (m : Machine S U C A) (b : Book S U C A L X) whe
 
     -- it stands of the setting p, made by the call c on the state s with the ledger l, after the calls between
     pub record Stands (s : S) (l : L) (c : C) (between : List C) (p : Setting X) : Type 0 where
-      pub made : List-as-Memᴰ p (settings l (event (step_of m) s c))
+      pub made : Memᴰ p (settings l (event (step_of m) s c))
       pub lasts : T (untouched (note_of m b.keeper) (touches p) (note_of m b.keeper l (event (step_of m) s c)) (events (step_of m) (step_of m s c).state between))
 
     -- where it stands

@@ -1,5 +1,6 @@
 -- What fills, evictions and flushes of units count, in counts of any type: the controller's counters and a tally follow one rule.
-use Rattle.access.specs.Logic.{List, ℕ, if◌then◌else◌, ◌‼◌}
+use Rattle.std.specs.Prelude.{List, ℕ, if◌then◌else◌}
+use Rattle.tables.specs.Notation.{◌‼◌}
 use mathlib.Core.List.{foldl}
 use Rattle.fields.specs.Layout.{get}
 use Rattle.fields.specs.Registers as reg

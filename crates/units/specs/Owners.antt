@@ -1,5 +1,6 @@
 -- The lent table of owners: a word for each unit of capacity, 0 when the unit is free (rules U2, U5 and U6).
-use Rattle.access.specs.Logic.{Bool, ◌&&◌, ◌||◌, List, [], ◌∷◌, ℕ, if◌then◌else◌, ◌==◌, ◌<?◌}
+use Rattle.std.specs.Prelude.{Bool, ◌&&◌, ◌||◌, List, [], ◌∷◌, ℕ, if◌then◌else◌, ◌==◌}
+use Rattle.tables.specs.Notation.{◌<?◌}
 use Rattle.std.specs.Prelude.{map}
 use Rattle.fields.specs.Layout.{get, pack}
 use Rattle.fields.specs.Registers as reg
