@@ -2,7 +2,7 @@
 ghost use Rattle.std.specs.Prelude.{◌≡◌, [], ◌∷◌};
 ghost use Rattle.replies.specs.Replies.{reply};
 ghost use Rattle.bandwidth_model.specs.Calls.{read};
-ghost use Rattle.bandwidth_lent.specs.Bytes.{step_bytes};
+ghost use Rattle.bandwidth_lent.specs.Bytes.{lent, step_bytes};
 
 use crate::Answer;
 use access::{Reading, refusal_number};
