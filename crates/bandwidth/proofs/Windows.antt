@@ -42,7 +42,7 @@ module _ {s : State} {t : Totals} (p : Passes s t) where
         active_long = p.sized.configured_long;
         active_ok = search (and_l, and_r) depth 8;
         waiters_long = p.sized.waiters_long;
-        waiters_ok_lem = search (and_l, and_r) depth 8;
+        waiters_pass = search (and_l, and_r) depth 8;
       }
 
   -- the whole pool, from what the configured table reserves

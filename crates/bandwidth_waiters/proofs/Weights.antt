@@ -30,7 +30,7 @@ module _ {su : Setup} {active waiters : List ℕ} (o : Opens su active waiters) 
       let named = leb 1 (need_of word) && ltb (waiter_mcid word) su.nm in
       let low = ltb (waiter_at word) su.na in
       let kept = eqb word (named_bits reg.waiter word) in
-      or_else (eqb word 0) (named && low && kept) (all_at su.nr (λ r. waiter_ok su (get_or waiters r 0)) o.waiters_ok_lem rcid l)
+      or_else (eqb word 0) (named && low && kept) (all_at su.nr (λ r. waiter_ok su (get_or waiters r 0)) o.waiters_pass rcid l)
       (λ z. rw (eqb→eq word 0 z) (omega (arith, get_zero reg.waiter_at, o.ranges.na_low)))
       (λ t. ltb→lt (waiter_at word) su.na (and_r named low (and_l (named && low) kept t)))
 

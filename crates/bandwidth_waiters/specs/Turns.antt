@@ -52,7 +52,7 @@ pub record Opens (su : Setup) (active waiters : List ℕ) : Type 0 where
   pub active_long : length active ≡ pairs su
   pub active_ok : T (table_ok su active)
   pub waiters_long : length waiters ≡ su.nr
-  pub waiters_ok_lem : T (waiters_ok su waiters)
+  pub waiters_pass : T (waiters_ok su waiters)
 
 -- before the turn of an RCID: its own words in use and those behind them are 0, and the pool's bytes fit
 pub record Ready (su : Setup) (active : List ℕ) (size : ℕ) (x : Tables) (rcid : ℕ) : Type 0 where
