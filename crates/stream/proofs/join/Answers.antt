@@ -1,16 +1,14 @@
--- `stream::join` meets its contract.
 use mathlib.Core.Path.{◌≡◌, refl, ◌∙◌}
 use native.Mathlib.Omega.{arith}
 use lib.ListN.{length, take}
 use lib.Seq.{length-take-le}
 use Rattle.stream.proofs.Laws.{joined}
-use borrow.Author.Rules.{rules}
-use Rattle.stream.proofs.join.Statement.{statement}
-use Rattle.stream.proofs.join.Tie as tie
+use Rattle.std.proofs.Common.{rules}
+use Rattle.stream.proofs.join.Goals as goal
 
-returns : tie.Need-returns
-returns c =
-    let a = c.before.before.before.before.args in
+pub returns-then-n-gt0 : goal.returns-then-n-gt0
+returns-then-n-gt0 c =
+    let a = c.args in
     let full : length (take a.n a.line.now) ≡ a.n = length-take-le _ _ (omega arith) in
     record {
       is = c.hold.ensures.is ∙ joined (take a.n a.line.now) a.part.now (λ z. omega arith);
@@ -19,10 +17,7 @@ returns c =
       long = c.hold.ensures.long;
     }
 
-returns-2 : tie.Need-returns-2
-returns-2 c =
-    let z : c.before.before.args.n ≡ 0 = omega arith in
+pub returns-else-n-gt0 : goal.returns-else-n-gt0
+returns-else-n-gt0 c =
+    let z : c.args.n ≡ 0 = omega arith in
     record { is = rw z refl; rest = refl; most = search rules; long = refl }
-
-pub join-spec : {M : Type 1} → statement M
-join-spec = tie.close (tie.spec (λ c κs. search rules) returns returns-2)

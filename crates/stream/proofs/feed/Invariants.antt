@@ -1,0 +1,19 @@
+use Rattle.std.proofs.Common.{rules}
+use mathlib.Core.Path.{◌≡◌, refl, sym, ap, ◌∙◌}
+use mathlib.Core.List.{List, []}
+use Prim.Native.Nat.{ℕ, ◌-◌}
+use native.Mathlib.Omega.{arith}
+use lib.ListN.{length, take, drop}
+use lib.Seq.{length-take-le}
+use Rattle.session.specs.View.{controller_of}
+use Rattle.session.proofs.Laws.{untouched}
+use Rattle.stream.specs.Stream.{stream, full_line}
+use Rattle.stream.proofs.Laws.{Going, at_newline, at_end_lem, kept_more, fed_by}
+use Rattle.stream.proofs.feed.Given as goal
+
+abbrev pub invariant-loop-i : goal.invariant-loop-i
+invariant-loop-i l =
+    Going (stream (controller_of l.initial.record l.initial.active l.initial.configured l.initial.used l.initial.counters l.initial.events l.initial.waiters) (take l.initial.n l.initial.line) []) l.chunk l.initial.out l.initial.active l.initial.configured l.initial.used l.initial.counters l.initial.events l.initial.waiters l.record l.active l.configured l.used l.counters l.events l.waiters l.line l.n l.end l.from l.i l.out
+
+abbrev pub decreases-loop-i : goal.decreases-loop-i
+decreases-loop-i l = length l.chunk - l.i
