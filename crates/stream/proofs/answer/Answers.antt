@@ -1,6 +1,5 @@
 use Rattle.session.proofs.Laws.{kept_largest}
 use Rattle.stream.proofs.Laws.{answered}
-use Rattle.std.proofs.Common.{rules}
 use Rattle.stream.proofs.answer.Goals as goal
 
 pub put_line-end-requires : goal.put_line-end-requires
@@ -9,4 +8,4 @@ put_line-end-requires c = c.requires.1
 pub returns : goal.returns
 returns c =
     let a = c.act-turned.ensures in
-    (answered c.parse-command.ensures a.0 c.put_line-end.ensures, kept_largest _ a.1)
+    record { answers = answered c.parse-command.ensures a.answer c.put_line-end.ensures; tables = kept_largest _ a.tables }

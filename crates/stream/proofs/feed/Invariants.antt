@@ -1,14 +1,9 @@
-use Rattle.std.proofs.Common.{rules}
-use mathlib.Core.Path.{◌≡◌, refl, sym, ap, ◌∙◌}
-use mathlib.Core.List.{List, []}
-use Prim.Native.Nat.{ℕ, ◌-◌}
-use native.Mathlib.Omega.{arith}
-use lib.ListN.{length, take, drop}
-use lib.Seq.{length-take-le}
+use mathlib.Core.List.{[]}
+use Prim.Native.Nat.{◌-◌}
+use lib.ListN.{length, take}
 use Rattle.session.specs.View.{controller_of}
-use Rattle.session.proofs.Laws.{untouched}
-use Rattle.stream.specs.Stream.{stream, full_line}
-use Rattle.stream.proofs.Laws.{Going, at_newline, at_end_lem, kept_more, fed_by}
+use Rattle.stream.specs.Stream.{stream}
+use Rattle.stream.proofs.Laws.{Going}
 use Rattle.stream.proofs.feed.Given as goal
 
 abbrev pub invariant-loop-i : goal.invariant-loop-i

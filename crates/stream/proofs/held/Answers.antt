@@ -1,7 +1,6 @@
 use mathlib.Core.Path.{sym, ◌∙◌}
 use native.Mathlib.Omega.{arith}
 use lib.Seq.{take_all}
-use Rattle.std.proofs.Common.{rules}
 use Rattle.stream.proofs.held.Goals as goal
 
 pub returns-else-len-lt81 : goal.returns-else-len-lt81

@@ -1,9 +1,7 @@
-use mathlib.Core.Path.{◌≡◌, refl, ap, ◌∙◌}
-use mathlib.Core.List.{◌++◌}
-use Prim.Native.Nat.{◌≤◌, ◌-◌}
+use mathlib.Core.Path.{refl, ap, ◌∙◌}
 use native.Mathlib.Omega.{arith}
 use Rattle.std.proofs.Common.{rules}
-use lib.ListN.{length, take, drop}
+use lib.ListN.{take}
 use Rattle.print.proofs.Laws.{beyond_set}
 use Rattle.stream.proofs.Laws.{hold_more, hold_full, hold_end}
 use Rattle.stream.proofs.hold.Goals as goal

@@ -1,11 +1,7 @@
-use mathlib.Core.Path.{◌≡◌, refl, ap, ◌∙◌}
+use mathlib.Core.Path.{◌≡◌}
 use mathlib.Core.List.{◌++◌}
 use Prim.Native.Nat.{◌≤◌, ◌-◌}
-use native.Mathlib.Omega.{arith}
-use Rattle.std.proofs.Common.{rules}
 use lib.ListN.{length, take, drop}
-use Rattle.print.proofs.Laws.{beyond_set}
-use Rattle.stream.proofs.Laws.{hold_more, hold_full, hold_end}
 use Rattle.stream.proofs.hold.Given as goal
 
 abbrev pub invariant-loop-i : goal.invariant-loop-i

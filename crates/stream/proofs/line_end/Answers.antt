@@ -1,9 +1,5 @@
-use mathlib.Core.Path.{◌≡◌}
-use Prim.Native.Nat.{◌≤◌, ◌-◌, ◌+◌}
 use native.Mathlib.Omega.{arith}
 use Rattle.std.proofs.Common.{rules}
-use lib.ListN.{length, drop}
-use Rattle.stream.specs.Stream.{line_span}
 use Rattle.stream.proofs.Laws.{span_end, span_stop, span_more}
 use Rattle.stream.proofs.line_end.Goals as goal
 
