@@ -1,7 +1,7 @@
 // Answers the lines of standard input: one read and one write for each chunk.
 #![tactic(auto)]
 
-ghost use Rattle.std.specs.Prelude.{◌≡◌, ◌*◌, ◌≤◌, length, take};
+ghost use Rattle.std.specs.Prelude.{◌≡◌, ◌*◌, ◌≤◌, OnErr, length, take};
 ghost use Rattle.print.specs.Print.{line_room};
 ghost use Rattle.session.specs.View.{controller_of, Tables};
 ghost use Rattle.stream.specs.Stream.{Fed};
@@ -27,7 +27,8 @@ struct Chunk {
 
 // Reads once.
 fn take_in(input: &mut impl Read, chunk: &mut [u8]) -> Got
-    ensures { result.bytes ≤ length chunk.new }
+    ensures within { result.bytes ≤ length chunk.new }
+    ensures failed { OnErr result.outcome (result.bytes ≡ 0) }
 {
     match input.read(chunk) {
         Ok(bytes) => Got {
@@ -55,8 +56,9 @@ fn turn(
     out: &mut [u8],
 ) -> Chunk
     requires { Tables active.old configured.old used.old counters.old events.old waiters.old × (line_room * length chunk.old ≤ length out.old) }
-    ensures { Fed (controller_of state.«record» active.old configured.old used.old counters.old events.old waiters.old) (take state.len state.line) (take result.got chunk.new)
+    ensures answers { Fed (controller_of state.«record» active.old configured.old used.old counters.old events.old waiters.old) (take state.len state.line) (take result.got chunk.new)
         (controller_of result.progress.state.«record» active.new configured.new used.new counters.new events.new waiters.new) (take result.progress.state.len result.progress.state.line) out.new result.progress.used }
+    ensures failed { OnErr result.outcome (result.got ≡ 0) }
 {
     let Got {
         bytes: got,
