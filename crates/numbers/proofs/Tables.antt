@@ -8,11 +8,11 @@ use borrow.Author.Count.{below_more}
 use lib.Dec.{eqb, eqb→eq, leb, leb→le, nleb→lt}
 use lib.ListN.{length, get_or, set, length-set, length-append, get_or-append, replicate, length-replicate, replicate-append-replicate}
 use lib.Seq.{get_or-set_same, get_or-set_other, get_or-append_seam, get_or-append-add, take-append-add, drop-append-add, ext_get_or, take_at, drop_at}
-use Rattle.tables.specs.Parts.{part, with_part}
+use Rattle.tables.specs.Parts.{with_part}
 use Rattle.tables.proofs.Tests.{cases, neqb}
 use Rattle.tables.proofs.Laws.{drop_replicate}
 use Rattle.tables.proofs.Parts.{with_at, with_below, with_above}
-use Rattle.numbers.specs.Numbers.{value, number_at, numbers_of, with_number, words_of, words_of_all}
+use Rattle.numbers.specs.Numbers.{number_at, numbers_of, with_number, words_of, words_of_all}
 use Rattle.numbers.proofs.Words.{value_same, words_long, words_number}
 
 -- ---- the numbers of a table

@@ -1,4 +1,3 @@
-use Rattle.std.proofs.Common.{rules}
 use Rattle.access.specs.Pairs.{known_at}
 use Rattle.access.proofs.known_at.Goals as goal
 

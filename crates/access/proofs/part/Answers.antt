@@ -1,4 +1,3 @@
-use Rattle.std.proofs.Common.{rules}
 use Rattle.access.specs.Access.{part}
 use Rattle.access.proofs.part.Goals as goal
 

@@ -1,6 +1,5 @@
-use mathlib.Core.Path.{◌≡◌, sym, ap, ◌∙◌}
+use mathlib.Core.Path.{sym, ap, ◌∙◌}
 use mathlib.Core.Bool.{true, false}
-use Rattle.std.proofs.Common.{rules}
 use Rattle.access.specs.View.{verdict_of}
 use Rattle.access.proofs.Access.{write_failed, write_passed}
 use Rattle.access.proofs.Refusals.{number_pos}

@@ -1,7 +1,6 @@
 use Prim.Native.Nat.{◌≤◌}
 use native.Mathlib.Nat.{mul-le-mul}
 use native.Mathlib.Omega.{arith}
-use Rattle.std.proofs.Common.{rules}
 use Rattle.bandwidth_model.specs.Rules.{weight_of}
 use Rattle.bandwidth_grants.proofs.Steps.{pool_steps}
 use Rattle.bandwidth_grants.proofs.from_pool.Goals as goal

@@ -1,4 +1,3 @@
-use Rattle.std.proofs.Common.{rules}
 use Rattle.bandwidth_grants.proofs.Steps.{give_fits, give_steps}
 use Rattle.bandwidth_grants.proofs.give.Goals as goal
 

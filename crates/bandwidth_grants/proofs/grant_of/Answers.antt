@@ -1,6 +1,5 @@
 use mathlib.Core.Path.{refl}
 use native.Mathlib.Omega.{arith}
-use Rattle.std.proofs.Common.{rules}
 use Rattle.bandwidth_grants.specs.Grants.{grant_in}
 use Rattle.bandwidth_grants.proofs.Steps.{held_steps}
 use Rattle.bandwidth_grants.proofs.grant_of.Goals as goal

@@ -1,8 +1,4 @@
-use mathlib.Core.Path.{◌≡◌, refl, sym, ◌∙◌}
-use mathlib.Core.Bool.{Bool, cond}
-use Rattle.std.proofs.Common.{rules}
-use Rattle.bandwidth_model.specs.Rules.{is_holder, is_sharer, nobody, held}
-use Rattle.bandwidth_grants.specs.Grants.{holder_in}
+use mathlib.Core.Path.{refl, sym, ◌∙◌}
 use Rattle.bandwidth_grants.proofs.Steps.{led}
 use Rattle.bandwidth_grants.proofs.holder_of.Goals as goal
 

@@ -1,5 +1,4 @@
 use native.Mathlib.Omega.{arith}
-use Rattle.std.proofs.Common.{rules}
 use Rattle.bandwidth_model.specs.Rules.{held}
 use Rattle.bandwidth_model.specs.Model.{spend}
 use Rattle.bandwidth_grants.specs.Grants.{Fits}

@@ -1,4 +1,3 @@
-use Rattle.std.proofs.Common.{rules}
 use Rattle.bandwidth_model.specs.Rules.{bw_word}
 use Rattle.bandwidth_settings.proofs.Words.{small, bw_le}
 use Rattle.bandwidth_settings.proofs.bw_word.Goals as goal

@@ -1,8 +1,6 @@
 use Prim.Native.Nat.{◌-◌}
-use native.Mathlib.Omega.{arith}
-use Rattle.std.proofs.Common.{rules}
 use lib.ListN.{length}
-use Rattle.bandwidth_settings.proofs.Words.{CarriedBelow, carried_none, carried_next, carried_end}
+use Rattle.bandwidth_settings.proofs.Words.{CarriedBelow}
 use Rattle.bandwidth_settings.proofs.carry_weight.Given as goal
 
 abbrev pub invariant-loop-i : goal.invariant-loop-i

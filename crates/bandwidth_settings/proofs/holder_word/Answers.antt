@@ -1,4 +1,3 @@
-use Rattle.std.proofs.Common.{rules}
 use Rattle.bandwidth_model.specs.Rules.{holder_word}
 use Rattle.bandwidth_settings.proofs.holder_word.Goals as goal
 

@@ -1,4 +1,3 @@
-use Rattle.std.proofs.Common.{rules}
 use Rattle.bandwidth_model.specs.Rules.{use_shared_of, is_holder}
 use Rattle.bandwidth_settings.proofs.is_holder.Goals as goal
 

@@ -1,4 +1,3 @@
-use Rattle.std.proofs.Common.{rules}
 use Rattle.bandwidth_model.specs.Model.{registers_ok}
 use Rattle.bandwidth_settings.proofs.registers_ok.Goals as goal
 

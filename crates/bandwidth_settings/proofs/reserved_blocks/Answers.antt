@@ -1,4 +1,3 @@
-use Rattle.std.proofs.Common.{rules}
 use Rattle.bandwidth_model.specs.Rules.{rbwb_of, reserved}
 use Rattle.bandwidth_model.proofs.Words.{reserved_le}
 use Rattle.bandwidth_settings.proofs.Words.{small}

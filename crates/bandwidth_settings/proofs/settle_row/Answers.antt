@@ -2,7 +2,6 @@ use mathlib.Core.Path.{◌≡◌, ◌∙◌}
 use mathlib.Core.Bool.{Bool, true, false, cond, ◌&&◌}
 use mathlib.Core.List.{List, map}
 use Prim.Native.Nat.{ℕ}
-use Rattle.std.proofs.Common.{rules}
 use lib.ListN.{set}
 use Rattle.fields.specs.Layout.{unpack}
 use Rattle.fields.specs.Registers.{bw_alloc}

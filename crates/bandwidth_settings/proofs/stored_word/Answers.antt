@@ -1,4 +1,3 @@
-use Rattle.std.proofs.Common.{rules}
 use Rattle.bandwidth_model.specs.Rules.{rbwb_of, weight_of, shared_at_of, use_shared_of, sharer_word, stored_form}
 use Rattle.bandwidth_settings.proofs.Words.{small, stored_le}
 use Rattle.bandwidth_settings.proofs.stored_word.Goals as goal

@@ -1,7 +1,6 @@
 use mathlib.Core.Path.{◌≡◌}
 use mathlib.Core.Bool.{Bool, cond}
 use Prim.Native.Nat.{ℕ}
-use Rattle.std.proofs.Common.{rules}
 use Rattle.fields.specs.Layout.{unpack}
 use Rattle.fields.specs.Registers.{bw_alloc}
 use Rattle.fields.specs.View.{of_bw_alloc}

@@ -1,5 +1,4 @@
 use native.Mathlib.Omega.{arith}
-use Rattle.std.proofs.Common.{rules}
 use Rattle.bandwidth_setup.specs.View.{setup_of}
 use Rattle.bandwidth_settings.proofs.Rows.{row_end, row_reserves, row_write}
 use Rattle.bandwidth_settings.proofs.write_alloc.Goals as goal

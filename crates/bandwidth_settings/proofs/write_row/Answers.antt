@@ -3,7 +3,6 @@ use mathlib.Core.Bool.{Bool, cond}
 use mathlib.Core.List.{List, [], ◌∷◌}
 use Prim.Native.Nat.{ℕ}
 use lib.ListN.{get_or}
-use Rattle.std.proofs.Common.{rules}
 use Rattle.fields.specs.Layout.{pack}
 use Rattle.fields.specs.Registers.{alloc_ctl}
 use Rattle.fields.specs.declared.AllocCtl.{AllocCtl}

@@ -1,5 +1,4 @@
 use mathlib.Core.Path.{refl}
-use Rattle.std.proofs.Common.{rules}
 use Rattle.bandwidth_model.specs.Waiters.{held_word}
 use Rattle.bandwidth_waiters.proofs.held_word.Goals as goal
 

@@ -1,4 +1,3 @@
-use Rattle.std.proofs.Common.{rules}
 use Rattle.bandwidth_grants.specs.View.{holder_from}
 use Rattle.bandwidth_waiters.proofs.Steps.{serve_fits, serve_steps}
 use Rattle.bandwidth_waiters.proofs.serve.Goals as goal

@@ -1,4 +1,3 @@
-use Rattle.std.proofs.Common.{rules}
 use Rattle.bandwidth_waiters.proofs.Steps.{served_steps}
 use Rattle.bandwidth_waiters.proofs.served_of.Goals as goal
 

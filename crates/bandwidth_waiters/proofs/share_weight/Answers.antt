@@ -1,4 +1,3 @@
-use Rattle.std.proofs.Common.{rules}
 use Rattle.bandwidth_waiters.proofs.share_weight.Goals as goal
 
 pub returns : goal.returns

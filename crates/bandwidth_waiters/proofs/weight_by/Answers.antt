@@ -1,4 +1,3 @@
-use Rattle.std.proofs.Common.{rules}
 use Rattle.bandwidth_model.specs.Rules.{weight_of}
 use Rattle.bandwidth_waiters.proofs.Steps.{weight_steps}
 use Rattle.bandwidth_waiters.proofs.weight_by.Goals as goal

@@ -1,4 +1,3 @@
-use Rattle.std.proofs.Common.{rules}
 use Rattle.bandwidth_wellformed.proofs.Tables.{tables_by}
 use Rattle.bandwidth_wellformed.proofs.tables_by.Goals as goal
 

@@ -1,7 +1,6 @@
 use mathlib.Core.Path.{sym}
 use native.Mathlib.Nat.{mul-le-mul}
 use native.Mathlib.Omega.{arith}
-use Rattle.std.proofs.Common.{rules}
 use Rattle.bandwidth_model.specs.Rules.{pairs}
 use Rattle.bandwidth_wellformed.proofs.tables_ok.Goals as goal
 

@@ -1,5 +1,4 @@
 use native.Mathlib.Omega.{arith}
-use Rattle.std.proofs.Common.{rules}
 use Rattle.codes.specs.Codes.{alloc_ops}
 use Rattle.codes.proofs.Rows.{has_in}
 use Rattle.codes.proofs.upper_op.Goals as goal

@@ -1,6 +1,5 @@
 use mathlib.Core.Path.{ap, ◌∙◌}
 use Prim.Native.Nat.{◌/◌, ◌^◌}
-use Rattle.std.proofs.Common.{rules}
 use lib.Bits.{bit_and, and_mask}
 use Rattle.fields.proofs.field.Goals as goal
 

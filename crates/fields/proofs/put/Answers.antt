@@ -1,4 +1,3 @@
-use Rattle.std.proofs.Common.{rules}
 use Rattle.fields.proofs.Laws.{or_put}
 use Rattle.fields.proofs.put.Goals as goal
 

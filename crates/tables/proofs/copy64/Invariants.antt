@@ -1,8 +1,7 @@
-use mathlib.Core.Path.{◌≡◌, refl, sym}
+use mathlib.Core.Path.{◌≡◌}
 use Prim.Native.Nat.{◌-◌}
-use Rattle.std.proofs.Common.{rules}
 use lib.ListN.{length, get_or}
-use Rattle.tables.proofs.Laws.{Filled, filled_none, filled_next, filled_end}
+use Rattle.tables.proofs.Laws.{Filled}
 use Rattle.tables.proofs.copy64.Given as goal
 
 abbrev pub invariant-loop-i : goal.invariant-loop-i

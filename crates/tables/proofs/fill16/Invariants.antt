@@ -1,7 +1,6 @@
 use Prim.Native.Nat.{◌-◌}
-use Rattle.std.proofs.Common.{rules}
 use lib.ListN.{length}
-use Rattle.tables.proofs.Laws.{Filled, filled_none, filled_next, filled_same}
+use Rattle.tables.proofs.Laws.{Filled}
 use Rattle.tables.proofs.fill16.Given as goal
 
 abbrev pub invariant-loop-i : goal.invariant-loop-i

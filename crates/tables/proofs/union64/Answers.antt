@@ -1,9 +1,6 @@
 use mathlib.Core.Path.{◌≡◌, sym}
-use Prim.Native.Nat.{◌≤◌, ◌-◌}
 use native.Mathlib.Omega.{arith}
-use Rattle.std.proofs.Common.{rules}
-use lib.ListN.{length, get_or}
-use Rattle.tables.specs.View.{union_below}
+use lib.ListN.{length}
 use Rattle.tables.proofs.Union.{union_none, union_next}
 use Rattle.tables.proofs.union64.Goals as goal
 

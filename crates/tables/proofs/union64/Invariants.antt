@@ -1,10 +1,7 @@
-use mathlib.Core.Path.{◌≡◌, sym}
+use mathlib.Core.Path.{◌≡◌}
 use Prim.Native.Nat.{◌≤◌, ◌-◌}
-use native.Mathlib.Omega.{arith}
-use Rattle.std.proofs.Common.{rules}
 use lib.ListN.{length, get_or}
 use Rattle.tables.specs.View.{union_below}
-use Rattle.tables.proofs.Union.{union_none, union_next}
 use Rattle.tables.proofs.union64.Given as goal
 
 abbrev pub invariant-loop-i : goal.invariant-loop-i

@@ -1,8 +1,6 @@
-use mathlib.Core.Path.{refl, sym}
 use Prim.Native.Nat.{◌-◌}
-use Rattle.std.proofs.Common.{rules}
 use lib.ListN.{length, get_or}
-use Rattle.tables.proofs.Laws.{Filled, filled_none, filled_next, filled_end}
+use Rattle.tables.proofs.Laws.{Filled}
 use Rattle.words.proofs.copy8.Given as goal
 
 abbrev pub invariant-loop-i : goal.invariant-loop-i

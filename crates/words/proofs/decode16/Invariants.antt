@@ -1,6 +1,5 @@
 use Prim.Native.Nat.{◌-◌}
-use native.Mathlib.Omega.{arith}
-use Rattle.words.proofs.Loop.{Decoding, decode_start, decode_turn, decode_end}
+use Rattle.words.proofs.Loop.{Decoding}
 use Rattle.words.proofs.decode16.Given as goal
 
 abbrev pub invariant-loop-i : goal.invariant-loop-i

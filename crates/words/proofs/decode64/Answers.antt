@@ -1,6 +1,5 @@
-use Prim.Native.Nat.{◌-◌}
 use native.Mathlib.Omega.{arith}
-use Rattle.words.proofs.Loop.{Decoding, decode_start, decode_turn, decode_end}
+use Rattle.words.proofs.Loop.{decode_start, decode_turn, decode_end}
 use Rattle.words.proofs.decode64.Goals as goal
 
 pub loop-i-init : goal.loop-i-init

@@ -1,6 +1,5 @@
 use Prim.Native.Nat.{◌-◌}
-use native.Mathlib.Omega.{arith}
-use Rattle.words.proofs.Loop.{Encoding, encode_start, encode_turn, encode_end}
+use Rattle.words.proofs.Loop.{Encoding}
 use Rattle.words.proofs.encode32.Given as goal
 
 abbrev pub invariant-loop-i : goal.invariant-loop-i

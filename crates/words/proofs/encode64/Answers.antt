@@ -1,6 +1,5 @@
-use Prim.Native.Nat.{◌-◌}
 use native.Mathlib.Omega.{arith}
-use Rattle.words.proofs.Loop.{Encoding, encode_start, encode_turn, encode_end}
+use Rattle.words.proofs.Loop.{encode_start, encode_turn, encode_end}
 use Rattle.words.proofs.encode64.Goals as goal
 
 pub loop-i-init : goal.loop-i-init

@@ -1,5 +1,3 @@
-use native.Mathlib.Omega.{arith}
-use Rattle.std.proofs.Common.{rules}
 use Rattle.words.proofs.Word.{put_inside, put_outside}
 use Rattle.words.proofs.put16.Goals as goal
 

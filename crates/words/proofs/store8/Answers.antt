@@ -1,5 +1,4 @@
 use native.Mathlib.Omega.{arith}
-use Rattle.std.proofs.Common.{rules}
 use Rattle.words.proofs.Word.{store_byte}
 use Rattle.words.proofs.store8.Goals as goal
 

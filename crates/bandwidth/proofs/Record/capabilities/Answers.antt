@@ -1,4 +1,3 @@
-use Rattle.std.proofs.Common.{rules}
 use Rattle.bandwidth_model.specs.Model.{capabilities}
 use Rattle.bandwidth.proofs.Record.capabilities.Goals as goal
 

@@ -1,5 +1,4 @@
 use mathlib.Core.Path.{sym, ◌∙◌}
-use Rattle.std.proofs.Common.{rules}
 use Rattle.tables.proofs.Tests.{of_true, of_false}
 use Rattle.bandwidth_model.proofs.Setup.{ranges}
 use Rattle.access.proofs.Checks.{check_1, check_2, check_3}

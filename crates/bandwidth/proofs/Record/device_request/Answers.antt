@@ -1,4 +1,3 @@
-use Rattle.std.proofs.Common.{rules}
 use Rattle.bandwidth_model.proofs.Devices.{device_is}
 use Rattle.bandwidth.proofs.Record.device_request.Goals as goal
 

@@ -1,4 +1,3 @@
-use Rattle.std.proofs.Common.{rules}
 use Rattle.bandwidth_model.specs.Calls.{end_window}
 use Rattle.bandwidth.proofs.Checks.{failed_of, passed_of}
 use Rattle.bandwidth.proofs.Calls.{call_failed, end_done}

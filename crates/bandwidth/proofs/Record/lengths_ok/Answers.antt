@@ -1,4 +1,3 @@
-use Rattle.std.proofs.Common.{rules}
 use Rattle.bandwidth_model.specs.Model.{lengths_ok}
 use Rattle.bandwidth.proofs.Record.lengths_ok.Goals as goal
 

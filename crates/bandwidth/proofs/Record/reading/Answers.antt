@@ -1,5 +1,4 @@
 use mathlib.Core.Path.{refl, sym, ap, ◌∙◌}
-use Rattle.std.proofs.Common.{rules}
 use Rattle.access.specs.View.{verdict_of}
 use Rattle.bandwidth_model.specs.Model.{read_at}
 use Rattle.bandwidth.proofs.Calls.{read_refused, read_done}

@@ -1,5 +1,4 @@
 use mathlib.Core.Path.{refl}
-use Rattle.std.proofs.Common.{rules}
 use borrow.Author.Tests.{ne_eqb}
 use Rattle.bandwidth_model.specs.Model.{register}
 use Rattle.bandwidth.proofs.Record.register.Goals as goal

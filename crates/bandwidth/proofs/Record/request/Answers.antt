@@ -1,4 +1,3 @@
-use Rattle.std.proofs.Common.{rules}
 use Rattle.bandwidth_model.proofs.Devices.{request_is}
 use Rattle.bandwidth.proofs.Record.request.Goals as goal
 

@@ -1,5 +1,4 @@
 use mathlib.Core.Path.{refl}
-use Rattle.std.proofs.Common.{rules}
 use Rattle.bandwidth.proofs.Checks.{failed_of, passed_of}
 use Rattle.bandwidth.proofs.Calls.{call_failed, request_unknown, request_done, known_rcid}
 use Rattle.bandwidth.proofs.Record.request_by.Goals as goal

@@ -1,5 +1,4 @@
 use mathlib.Core.Path.{sym, ◌∙◌}
-use Rattle.std.proofs.Common.{rules}
 use Rattle.tables.proofs.Tests.{of_true}
 use Rattle.bandwidth_model.proofs.Setup.{ranges}
 use Rattle.bandwidth.proofs.Checks.{sized}

@@ -1,5 +1,4 @@
 use native.Mathlib.Omega.{arith}
-use Rattle.std.proofs.Common.{rules}
 use Rattle.bandwidth_setup.specs.View.{setup_of}
 use Rattle.bandwidth_settings.proofs.Rows.{row_end}
 use Rattle.bandwidth.proofs.Calls.{request_fits, serve_row}

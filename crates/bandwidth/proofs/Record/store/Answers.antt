@@ -1,4 +1,3 @@
-use Rattle.std.proofs.Common.{rules}
 use Rattle.bandwidth.proofs.Calls.{write_alloc_at, write_bw_at, write_mon_at, write_none}
 use Rattle.bandwidth.proofs.Record.store.Goals as goal
 

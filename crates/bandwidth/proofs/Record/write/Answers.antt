@@ -1,5 +1,4 @@
 use mathlib.Core.Path.{sym, ap, ◌∙◌}
-use Rattle.std.proofs.Common.{rules}
 use Rattle.access.specs.View.{verdict_of}
 use Rattle.bandwidth_model.specs.Calls.{write}
 use Rattle.bandwidth.proofs.Checks.{failed_of, passed_of}

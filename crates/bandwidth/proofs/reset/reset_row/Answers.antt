@@ -1,5 +1,4 @@
 use mathlib.Core.Path.{refl, ◌∙◌}
-use Rattle.std.proofs.Common.{rules}
 use Rattle.bandwidth_model.specs.Rules.{holder_word, sharer_word}
 use Rattle.bandwidth.specs.View.{reset_row}
 use Rattle.bandwidth.proofs.reset.reset_row.Goals as goal

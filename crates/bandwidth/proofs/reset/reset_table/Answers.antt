@@ -1,7 +1,6 @@
 use mathlib.Core.Path.{◌≡◌, ap, ◌∙◌}
 use Prim.Native.Nat.{ℕ}
 use native.Mathlib.Omega.{arith}
-use Rattle.std.proofs.Common.{rules}
 use lib.ListN.{length, take, replicate, length-take}
 use Rattle.bandwidth_model.specs.Rules.{pairs}
 use Rattle.bandwidth_setup.specs.View.{setup_of}

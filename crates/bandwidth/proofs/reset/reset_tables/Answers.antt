@@ -1,6 +1,5 @@
 use mathlib.Core.Path.{ap, ◌∙◌}
 use Prim.Native.Nat.{ℕ}
-use Rattle.std.proofs.Common.{rules}
 use lib.ListN.{replicate}
 use Rattle.bandwidth.proofs.reset.reset_tables.Goals as goal
 

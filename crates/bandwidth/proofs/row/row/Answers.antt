@@ -1,7 +1,6 @@
 use mathlib.Core.Path.{sym, ◌∙◌}
 use Prim.Native.Nat.{◌*◌, ◌+◌, ◌≤◌}
 use native.Mathlib.Omega.{arith}
-use Rattle.std.proofs.Common.{rules}
 use Rattle.tables.proofs.Tests.{of_true}
 use Rattle.bandwidth_model.proofs.Setup.{ranges}
 use Rattle.bandwidth_setup.specs.View.{setup_of}

@@ -1,4 +1,3 @@
-use Rattle.std.proofs.Common.{rules}
 use Rattle.bandwidth_model.specs.Calls.{request}
 use Rattle.bandwidth_lent.specs.Bytes.{pointers}
 use Rattle.bandwidth_bytes.proofs.Calls.{passed_of, failed_of, request_asks}

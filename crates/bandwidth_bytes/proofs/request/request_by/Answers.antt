@@ -1,5 +1,4 @@
 use mathlib.Core.Path.{◌∙◌}
-use Rattle.std.proofs.Common.{rules}
 use Rattle.bandwidth_bytes.proofs.Calls.{request_unnamed}
 use Rattle.bandwidth_bytes.proofs.request.request_by.Goals as goal
 

@@ -1,6 +1,5 @@
 use native.Mathlib.Nat.{le_trans}
 use native.Mathlib.Omega.{arith}
-use Rattle.std.proofs.Common.{rules}
 use Rattle.bandwidth_bytes.proofs.Calls.{give_in, served}
 use Rattle.bandwidth_bytes.proofs.request.serve.Goals as goal
 

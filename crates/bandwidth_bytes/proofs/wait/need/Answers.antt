@@ -1,5 +1,4 @@
 use mathlib.Core.Path.{ap, ◌∙◌}
-use Rattle.std.proofs.Common.{rules}
 use Rattle.bandwidth_model.specs.Calls.{need}
 use Rattle.bandwidth_model.specs.Waiters.{need_of, need_at}
 use Rattle.bandwidth_lent.specs.Bytes.{pointers}

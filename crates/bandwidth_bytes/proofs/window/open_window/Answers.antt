@@ -1,7 +1,6 @@
-use mathlib.Core.Path.{◌≡◌, sym, ◌∙◌}
+use mathlib.Core.Path.{sym, ◌∙◌}
 use native.Mathlib.Nat.{mul-le-mul}
 use native.Mathlib.Omega.{arith}
-use Rattle.std.proofs.Common.{rules}
 use Rattle.bandwidth_bytes.proofs.Windows.{window_still, window_weighs, window_begins, window_turned}
 use Rattle.bandwidth_bytes.proofs.window.open_window.Goals as goal
 

@@ -1,5 +1,4 @@
 use native.Mathlib.Omega.{arith}
-use Rattle.std.proofs.Common.{rules}
 use Rattle.bandwidth_model.specs.Rules.{pairs}
 use Rattle.bandwidth.proofs.Calls.{alloc_reserves, ready}
 use Rattle.bandwidth_bytes.proofs.Calls.{alloc_written, bw_written, mon_written, none_written}

@@ -3,7 +3,6 @@ use native.Mathlib.Nat.{le_trans}
 use native.Mathlib.Omega.{arith}
 use lib.ListN.{replicate}
 use lib.Seq.{length-take-le}
-use Rattle.std.proofs.Common.{rules}
 use Rattle.bandwidth_bytes.proofs.Parts.{alloc_stored}
 use Rattle.bandwidth_bytes.proofs.write.write_alloc.Goals as goal
 

@@ -1,7 +1,6 @@
 use mathlib.Core.Path.{ap, ◌∙◌}
 use mathlib.Core.List.{List}
 use Prim.Native.Nat.{ℕ}
-use Rattle.std.proofs.Common.{rules}
 use Rattle.words.proofs.Parts.{loaded_as, stored_as}
 use Rattle.bandwidth_setup.specs.View.{setup_of}
 use Rattle.bandwidth_settings.specs.Rows.{write_row}

@@ -5,7 +5,6 @@ use Prim.Native.Nat.{ℕ, ◌+◌, ◌-◌}
 use native.Mathlib.Omega.{arith}
 use lib.Dec.{ltb, eqb}
 use lib.ListN.{get_or}
-use Rattle.std.proofs.Common.{rules}
 use Rattle.fields.specs.Layout.{unpack}
 use Rattle.fields.specs.Registers.{bw_alloc}
 use Rattle.fields.specs.View.{of_bw_alloc}

@@ -1,4 +1,3 @@
-use Rattle.std.proofs.Common.{rules}
 use borrow.Author.Tests.{eq-eqb, ne_eqb}
 use Rattle.bandwidth_model.specs.Rules.{use_shared_of}
 use Rattle.bandwidth_settings.specs.Rows.{bad_operand_in}

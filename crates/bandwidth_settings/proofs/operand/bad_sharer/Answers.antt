@@ -4,7 +4,6 @@ use mathlib.Core.List.{List}
 use Prim.Native.Nat.{ℕ}
 use lib.Dec.{leb, eqb}
 use lib.ListN.{get_or}
-use Rattle.std.proofs.Common.{rules}
 use Rattle.fields.specs.Layout.{unpack}
 use Rattle.fields.specs.Registers.{bw_alloc}
 use Rattle.fields.specs.View.{of_bw_alloc}

@@ -1,11 +1,7 @@
 use mathlib.Core.Path.{◌≡◌, sym}
-use Prim.Native.Nat.{◌≤◌, ◌-◌}
 use native.Mathlib.Omega.{arith}
-use Rattle.std.proofs.Common.{rules}
-use Rattle.tables.specs.Below.{any_below}
 use Rattle.tables.proofs.Tests.{is_false}
 use Rattle.tables.proofs.Laws.{any_none, any_next}
-use Rattle.bandwidth_settings.specs.Rows.{shares_in}
 use Rattle.bandwidth_settings.proofs.operand.is_shared.Goals as goal
 
 pub loop-b-init : goal.loop-b-init

@@ -1,10 +1,6 @@
-use mathlib.Core.Path.{◌≡◌, sym}
+use mathlib.Core.Path.{◌≡◌}
 use Prim.Native.Nat.{◌≤◌, ◌-◌}
-use native.Mathlib.Omega.{arith}
-use Rattle.std.proofs.Common.{rules}
 use Rattle.tables.specs.Below.{any_below}
-use Rattle.tables.proofs.Tests.{is_false}
-use Rattle.tables.proofs.Laws.{any_none, any_next}
 use Rattle.bandwidth_settings.specs.Rows.{shares_in}
 use Rattle.bandwidth_settings.proofs.operand.is_shared.Given as goal
 

@@ -1,4 +1,3 @@
-use Rattle.std.proofs.Common.{rules}
 use Rattle.bandwidth_model.specs.Rules.{shared_at_of}
 use Rattle.bandwidth_settings.specs.Rows.{shares_in}
 use Rattle.bandwidth_settings.proofs.operand.shares_at.Goals as goal

@@ -1,8 +1,6 @@
 use mathlib.Core.Path.{◌≡◌, refl, ap, ◌∙◌}
-use Prim.Native.Nat.{ℕ, ◌-◌, ◌≤◌}
 use native.Mathlib.Omega.{arith}
 use Rattle.std.proofs.Common.{rules}
-use lib.ListN.{length}
 use Rattle.bandwidth_setup.specs.View.{setup_of}
 use Rattle.bandwidth_waiters.specs.Turns.{tables, turns}
 use Rattle.bandwidth_waiters.proofs.Windows.{turns_ready, turns_none, turns_next}

@@ -1,11 +1,8 @@
-use mathlib.Core.Path.{◌≡◌, refl, ap, ◌∙◌}
-use Prim.Native.Nat.{ℕ, ◌-◌, ◌≤◌}
-use native.Mathlib.Omega.{arith}
-use Rattle.std.proofs.Common.{rules}
+use mathlib.Core.Path.{◌≡◌}
+use Prim.Native.Nat.{◌-◌, ◌≤◌}
 use lib.ListN.{length}
 use Rattle.bandwidth_setup.specs.View.{setup_of}
 use Rattle.bandwidth_waiters.specs.Turns.{tables, turns}
-use Rattle.bandwidth_waiters.proofs.Windows.{turns_ready, turns_none, turns_next}
 use Rattle.bandwidth_waiters.proofs.service.serve_all.Given as goal
 
 abbrev pub invariant-loop-rcid : goal.invariant-loop-rcid

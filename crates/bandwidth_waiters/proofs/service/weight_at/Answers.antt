@@ -2,7 +2,6 @@ use mathlib.Core.Path.{sym, ap, ◌∙◌}
 use mathlib.Core.List.{List}
 use Prim.Native.Nat.{ℕ}
 use native.Mathlib.Omega.{arith}
-use Rattle.std.proofs.Common.{rules}
 use lib.ListN.{get_or}
 use Rattle.bandwidth_setup.specs.View.{setup_of}
 use Rattle.bandwidth_model.specs.Waiters.{need_of, waiter_at}

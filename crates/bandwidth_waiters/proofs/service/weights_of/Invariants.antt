@@ -1,11 +1,8 @@
-use mathlib.Core.Path.{◌≡◌, sym, ap, ◌∙◌}
-use Prim.Native.Nat.{ℕ, ◌-◌, ◌*◌, ◌≤◌}
-use native.Mathlib.Omega.{arith}
-use Rattle.std.proofs.Common.{rules}
+use mathlib.Core.Path.{◌≡◌}
+use Prim.Native.Nat.{◌-◌, ◌*◌, ◌≤◌}
 use lib.ListN.{length}
 use Rattle.bandwidth_setup.specs.View.{setup_of}
 use Rattle.bandwidth_model.specs.Waiters.{weights_below}
-use Rattle.bandwidth_waiters.proofs.Weights.{weights_start, weights_next}
 use Rattle.bandwidth_waiters.proofs.service.weights_of.Given as goal
 
 abbrev pub invariant-loop-rcid : goal.invariant-loop-rcid

@@ -3,7 +3,6 @@ use mathlib.Core.Bool.{Bool, cond}
 use mathlib.Core.List.{List}
 use Prim.Native.Nat.{ℕ}
 use lib.ListN.{get_or}
-use Rattle.std.proofs.Common.{rules}
 use Rattle.bandwidth_setup.specs.View.{setup_of}
 use Rattle.bandwidth_model.specs.Waiters.{need_of, waiter_mcid, waiter_at}
 use Rattle.bandwidth_waiters.proofs.Forms.{waiter_test}

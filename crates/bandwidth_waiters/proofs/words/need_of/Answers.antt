@@ -2,7 +2,6 @@ use mathlib.Core.Path.{ap}
 use mathlib.Core.List.{List}
 use Prim.Native.Nat.{ℕ}
 use lib.ListN.{get_or}
-use Rattle.std.proofs.Common.{rules}
 use Rattle.bandwidth_model.specs.Waiters.{need_of}
 use Rattle.bandwidth_waiters.proofs.words.need_of.Goals as goal
 

@@ -3,7 +3,6 @@ use Prim.Native.Nat.{min}
 use lib.Dec.{eqb}
 use native.Mathlib.Nat.{min-eq_left}
 use native.Mathlib.Omega.{arith}
-use Rattle.std.proofs.Common.{rules}
 use Rattle.access.proofs.Pairs.{known_lt}
 use Rattle.bandwidth_grants.proofs.Steps.{pick_le}
 use Rattle.bandwidth_model.specs.Waiters.{put_word}

@@ -1,6 +1,5 @@
 use mathlib.Core.Path.{refl, sym, ◌∙◌}
 use lib.Dec.{eqb}
-use Rattle.std.proofs.Common.{rules}
 use Rattle.tables.proofs.Tests.{cond_no, neqb_in}
 use Rattle.bandwidth_model.specs.Waiters.{waiter_word}
 use Rattle.bandwidth_waiters.proofs.words.waiter_word.Goals as goal

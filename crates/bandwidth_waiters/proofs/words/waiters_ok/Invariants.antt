@@ -1,13 +1,9 @@
-use mathlib.Core.Path.{◌≡◌, sym, ap, ◌∙◌}
-use Prim.Native.Nat.{ℕ, ◌≤◌, ◌-◌}
-use native.Mathlib.Omega.{arith}
-use Rattle.std.proofs.Common.{rules}
-use lib.Dec.{eqb}
+use mathlib.Core.Path.{◌≡◌}
+use Prim.Native.Nat.{◌≤◌, ◌-◌}
 use lib.ListN.{length}
 use Rattle.tables.specs.View.{union_below}
-use Rattle.tables.proofs.Union.{union_none, union_next}
 use Rattle.bandwidth_setup.specs.View.{setup_of}
-use Rattle.bandwidth_waiters.proofs.Forms.{bad_at, waiters_test}
+use Rattle.bandwidth_waiters.proofs.Forms.{bad_at}
 use Rattle.bandwidth_waiters.proofs.words.waiters_ok.Given as goal
 
 abbrev pub invariant-loop-i : goal.invariant-loop-i

@@ -1,4 +1,3 @@
-use Rattle.std.proofs.Common.{rules}
 use lib.Dec.{eqb→eq}
 use Rattle.bandwidth_wellformed.proofs.parts.all_zero.Goals as goal
 

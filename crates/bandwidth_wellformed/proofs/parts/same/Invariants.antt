@@ -1,12 +1,8 @@
 use mathlib.Core.Path.{◌≡◌}
 use Prim.Native.Nat.{◌≤◌, ◌-◌}
-use native.Mathlib.Omega.{arith}
-use Rattle.std.proofs.Common.{rules}
 use lib.Bits.{bit_xor}
-use lib.Dec.{eqb→eq}
 use lib.ListN.{length, get_or}
 use Rattle.bandwidth_wellformed.specs.Bits.{AtMost}
-use Rattle.bandwidth_wellformed.proofs.Passes.{at_most_none, at_most_next, same_words}
 use Rattle.bandwidth_wellformed.proofs.parts.same.Given as goal
 
 abbrev pub invariant-loop-i : goal.invariant-loop-i

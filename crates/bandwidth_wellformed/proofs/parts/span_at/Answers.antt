@@ -1,6 +1,4 @@
 use native.Mathlib.Omega.{arith}
-use Prim.Native.Nat.{◌*◌}
-use Rattle.bandwidth_wellformed.specs.Bits.{SpanAt}
 use Rattle.bandwidth_wellformed.proofs.SumLaws.{span_is}
 use Rattle.bandwidth_wellformed.proofs.parts.span_at.Goals as goal
 

@@ -1,10 +1,7 @@
 use mathlib.Core.Path.{◌≡◌}
 use Prim.Native.Nat.{◌≤◌, ◌-◌}
-use native.Mathlib.Omega.{arith}
-use Rattle.std.proofs.Common.{rules}
 use lib.ListN.{length, get_or}
 use Rattle.bandwidth_wellformed.specs.Bits.{AtMost}
-use Rattle.bandwidth_wellformed.proofs.Passes.{at_most_none, at_most_next}
 use Rattle.bandwidth_wellformed.proofs.parts.union32.Given as goal
 
 abbrev pub invariant-loop-i : goal.invariant-loop-i

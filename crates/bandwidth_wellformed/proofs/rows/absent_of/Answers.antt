@@ -1,4 +1,3 @@
-use Rattle.std.proofs.Common.{rules}
 use Rattle.bandwidth_wellformed.specs.Bits.{absent}
 use Rattle.bandwidth_wellformed.proofs.rows.absent_of.Goals as goal
 

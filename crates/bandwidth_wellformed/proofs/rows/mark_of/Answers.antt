@@ -1,5 +1,4 @@
 use native.Mathlib.Omega.{arith}
-use Rattle.std.proofs.Common.{rules}
 use Rattle.bandwidth_wellformed.specs.Bits.{mark}
 use Rattle.bandwidth_wellformed.proofs.Passes.{shift_some, shift_shared}
 use Rattle.bandwidth_wellformed.proofs.rows.mark_of.Goals as goal

@@ -1,15 +1,8 @@
-use mathlib.Core.Path.{◌≡◌, refl, sym}
-use mathlib.Core.Bool.{not, ◌&&◌, ◌||◌}
-use mathlib.Core.List.{List}
-use Prim.Native.Nat.{ℕ, ◌+◌, ◌-◌, ◌/◌, ◌%◌, ◌^◌, ◌≤◌}
-use native.Mathlib.Omega.{arith}
-use Rattle.std.proofs.Common.{rules}
-use lib.Bits.{bit_and}
-use lib.Dec.{eqb}
+use mathlib.Core.Path.{◌≡◌}
+use Prim.Native.Nat.{◌+◌, ◌-◌, ◌≤◌}
 use lib.ListN.{get_or}
 use Rattle.tables.specs.View.{union_below}
-use Rattle.tables.proofs.Union.{union_none, union_next}
-use Rattle.bandwidth_wellformed.specs.Bits.{absent_at, differing, weight_bits, row_plain}
+use Rattle.bandwidth_wellformed.specs.Bits.{absent_at}
 use Rattle.bandwidth_wellformed.proofs.rows.row_plain.Given as goal
 
 abbrev pub invariant-loop-a : goal.invariant-loop-a

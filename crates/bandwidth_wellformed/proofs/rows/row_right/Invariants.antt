@@ -1,16 +1,8 @@
-use mathlib.Core.Path.{◌≡◌, sym}
-use mathlib.Core.Bool.{◌&&◌}
-use mathlib.Core.List.{List}
-use Prim.Native.Nat.{ℕ, ◌+◌, ◌-◌, ◌/◌, ◌%◌, ◌^◌, ◌≤◌}
-use native.Mathlib.Omega.{arith}
-use Rattle.std.proofs.Common.{rules}
-use lib.Bits.{bit_and, bit_or}
-use lib.Dec.{eqb}
+use mathlib.Core.Path.{◌≡◌}
+use Prim.Native.Nat.{◌+◌, ◌-◌, ◌≤◌}
 use lib.ListN.{get_or}
 use Rattle.tables.specs.View.{union_below}
-use Rattle.tables.proofs.Union.{union_none, union_next}
-use Rattle.bandwidth_wellformed.specs.Bits.{mark_at, lacking, sharing_bits, absent_at, differing, weight_bits, row_right}
-use Rattle.bandwidth_wellformed.proofs.Bits.{or_ge_r}
+use Rattle.bandwidth_wellformed.specs.Bits.{mark_at, absent_at}
 use Rattle.bandwidth_wellformed.proofs.rows.row_right.Given as goal
 
 abbrev pub invariant-loop-a : goal.invariant-loop-a

@@ -1,5 +1,4 @@
 use mathlib.Core.Path.{sym, subst}
-use Rattle.std.proofs.Common.{rules}
 use lib.Dec.{T}
 use Rattle.tables.proofs.Tests.{of_true}
 use Rattle.bandwidth_wellformed.proofs.Passes.{plain_right}

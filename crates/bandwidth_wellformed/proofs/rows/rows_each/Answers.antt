@@ -1,5 +1,4 @@
 use native.Mathlib.Omega.{arith}
-use Rattle.std.proofs.Common.{rules}
 use Rattle.bandwidth_wellformed.proofs.rows.rows_each.Goals as goal
 
 pub rows_by-requires : goal.rows_by-requires

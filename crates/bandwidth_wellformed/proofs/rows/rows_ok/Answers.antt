@@ -1,7 +1,6 @@
 use mathlib.Core.Path.{sym}
 use mathlib.Core.Bool.{◌&&◌}
 use Prim.Native.Nat.{◌/◌}
-use Rattle.std.proofs.Common.{rules}
 use lib.Dec.{T, eqb, eqb→eq}
 use Rattle.tables.proofs.Tests.{and_l, and_r, of_true}
 use Rattle.bandwidth_wellformed.proofs.Passes.{light_right, single_right}

@@ -1,9 +1,6 @@
-use mathlib.Core.Path.{ap, ◌∙◌}
 use Prim.Native.Nat.{◌*◌, ◌-◌}
-use native.Mathlib.Omega.{arith}
-use Rattle.std.proofs.Common.{rules}
 use Rattle.bandwidth_wellformed.specs.Bits.{row_plain}
-use Rattle.bandwidth_wellformed.proofs.Passes.{RowsDone, rows_none, rows_inside, rows_next, rows_end}
+use Rattle.bandwidth_wellformed.proofs.Passes.{RowsDone}
 use Rattle.bandwidth_wellformed.proofs.rows.rows_plain.Given as goal
 
 abbrev pub invariant-loop-r : goal.invariant-loop-r

@@ -1,9 +1,8 @@
 use mathlib.Core.Path.{ap, ◌∙◌}
-use Prim.Native.Nat.{◌-◌}
 use native.Mathlib.Omega.{arith}
 use Rattle.std.proofs.Common.{rules}
 use Rattle.bandwidth_wellformed.specs.Bits.{right_at, row_right}
-use Rattle.bandwidth_wellformed.proofs.Passes.{RowsDone, rows_none, rows_inside, rows_next, rows_end}
+use Rattle.bandwidth_wellformed.proofs.Passes.{rows_none, rows_inside, rows_next, rows_end}
 use Rattle.bandwidth_wellformed.proofs.rows.rows_right.Goals as goal
 
 pub loop-r-init : goal.loop-r-init

@@ -1,4 +1,3 @@
-use Rattle.std.proofs.Common.{rules}
 use Rattle.bandwidth_wellformed.specs.Bits.{form_bits}
 use Rattle.bandwidth_wellformed.proofs.settings.form_bits.Goals as goal
 

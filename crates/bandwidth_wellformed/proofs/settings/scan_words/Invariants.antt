@@ -1,12 +1,7 @@
-use mathlib.Core.Path.{◌≡◌, sym}
+use mathlib.Core.Path.{◌≡◌}
 use Prim.Native.Nat.{◌≤◌, ◌-◌}
-use native.Mathlib.Omega.{arith}
-use Rattle.std.proofs.Common.{rules}
 use lib.ListN.{length}
-use Rattle.tables.proofs.Laws.{sum_none, sum_next}
-use Rattle.tables.proofs.Union.{union_none, union_next}
-use Rattle.bandwidth_wellformed.specs.Bits.{form_at, blocks_at, Scanned}
-use Rattle.bandwidth_wellformed.proofs.Passes.{blocks_low}
+use Rattle.bandwidth_wellformed.specs.Bits.{Scanned}
 use Rattle.bandwidth_wellformed.proofs.settings.scan_words.Given as goal
 
 abbrev pub invariant-loop-i : goal.invariant-loop-i

@@ -1,4 +1,3 @@
-use Rattle.std.proofs.Common.{rules}
 use Rattle.tables.proofs.Tests.{of_true}
 use Rattle.bandwidth_wellformed.proofs.settings.sum_configured.Goals as goal
 

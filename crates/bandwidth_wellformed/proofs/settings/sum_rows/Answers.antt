@@ -1,4 +1,3 @@
-use Rattle.std.proofs.Common.{rules}
 use Rattle.bandwidth_wellformed.proofs.settings.sum_rows.Goals as goal
 
 pub returns : goal.returns

@@ -1,8 +1,5 @@
 use mathlib.Core.Path.{◌≡◌}
-use Prim.Native.Nat.{◌≤◌, ◌-◌}
 use native.Mathlib.Omega.{arith}
-use Rattle.std.proofs.Common.{rules}
-use Rattle.bandwidth_wellformed.specs.Tables.{Summed}
 use Rattle.bandwidth_wellformed.proofs.SumLaws.{span_rows, sums_more, sums_fit}
 use Rattle.bandwidth_wellformed.proofs.settings.sum_tables.Goals as goal
 

@@ -1,5 +1,4 @@
 use mathlib.Core.Path.{refl, sym}
-use Rattle.std.proofs.Common.{rules}
 use Rattle.tables.proofs.Tests.{of_true}
 use Rattle.bandwidth_wellformed.proofs.Passes.{used_none, rough_none}
 use Rattle.bandwidth_wellformed.proofs.usage.over_bits.Goals as goal

@@ -1,9 +1,6 @@
 use mathlib.Core.Path.{◌≡◌, sym}
-use Prim.Native.Nat.{◌≤◌, ◌-◌}
 use native.Mathlib.Omega.{arith}
-use Rattle.std.proofs.Common.{rules}
 use lib.ListN.{length}
-use Rattle.tables.specs.View.{union_below}
 use Rattle.tables.proofs.Union.{union_none, union_next}
 use Rattle.bandwidth_wellformed.specs.Bits.{blocks_at, over_at}
 use Rattle.bandwidth_wellformed.proofs.usage.over_exactly.Goals as goal

@@ -1,11 +1,8 @@
-use mathlib.Core.Path.{◌≡◌, sym}
+use mathlib.Core.Path.{◌≡◌}
 use Prim.Native.Nat.{◌≤◌, ◌-◌}
-use native.Mathlib.Omega.{arith}
-use Rattle.std.proofs.Common.{rules}
 use lib.ListN.{length}
 use Rattle.tables.specs.View.{union_below}
-use Rattle.tables.proofs.Union.{union_none, union_next}
-use Rattle.bandwidth_wellformed.specs.Bits.{blocks_at, over_at}
+use Rattle.bandwidth_wellformed.specs.Bits.{over_at}
 use Rattle.bandwidth_wellformed.proofs.usage.over_exactly.Given as goal
 
 abbrev pub invariant-loop-i : goal.invariant-loop-i

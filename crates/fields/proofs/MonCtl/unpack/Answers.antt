@@ -1,4 +1,3 @@
-use Rattle.std.proofs.Common.{rules}
 use Rattle.fields.specs.Registers.{mon_ctl}
 use Rattle.fields.proofs.Laws.{unpacked}
 use Rattle.fields.proofs.MonCtl.unpack.Goals as goal

@@ -1,11 +1,8 @@
-use mathlib.Core.Path.{◌≡◌, sym, ap, ◌∙◌}
-use Prim.Native.Nat.{ℕ, ◌-◌, ◌/◌, ◌≤◌}
-use native.Mathlib.Omega.{arith}
+use mathlib.Core.Path.{◌≡◌}
+use Prim.Native.Nat.{◌-◌, ◌/◌, ◌≤◌}
 use lib.ListN.{length, get_or}
 use Rattle.tables.specs.View.{union_below}
-use Rattle.tables.proofs.Union.{union_none, union_next}
 use Rattle.words.specs.Words.{table_of}
-use Rattle.words.proofs.Parts.{entries, entry_in}
 use Rattle.words.proofs.entry.union64.Given as goal
 
 abbrev pub invariant-loop-i : goal.invariant-loop-i

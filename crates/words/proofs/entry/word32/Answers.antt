@@ -1,4 +1,3 @@
-use Rattle.std.proofs.Common.{rules}
 use Rattle.words.proofs.Parts.{entry_in, entry_out}
 use Rattle.words.proofs.entry.word32.Goals as goal
 

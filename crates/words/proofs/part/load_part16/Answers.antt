@@ -1,5 +1,4 @@
 use lib.Dec.{lit<}
-use Rattle.std.proofs.Common.{rules}
 use Rattle.words.proofs.Parts.{loaded}
 use Rattle.words.proofs.part.load_part16.Goals as goal
 

@@ -1,6 +1,5 @@
 use mathlib.Core.Path.{refl}
 use lib.Dec.{lit<}
-use Rattle.std.proofs.Common.{rules}
 use Rattle.words.proofs.Parts.{put_part}
 use Rattle.words.proofs.part.store_part64.Goals as goal
 
