@@ -6,7 +6,8 @@
  * proved_listing, and the read and write that it calls are the two functions
  * below. They keep the C library's promise: a count within the buffer, or -1.
  * After a failure nothing more is read or written, so that the proved part
- * comes to its end.
+ * comes to its end; what it would say of the failure itself is not written
+ * either.
  */
 #define _POSIX_C_SOURCE 200809L
 #include <cbqri.h>

@@ -2,7 +2,7 @@
 ghost use Rattle.std.specs.Prelude.{◌≡◌, [], ◌∷◌};
 ghost use Rattle.bandwidth_model.specs.Calls.{reset, read, write, request, end_window};
 ghost use Rattle.replies.specs.Replies.{reply};
-ghost use Rattle.bandwidth_lent.specs.Bytes.{setup_by, step_bytes};
+ghost use Rattle.bandwidth_lent.specs.Bytes.{setup_by, step_bytes, lent};
 
 use bandwidth_setup::Setup;
 

@@ -2,7 +2,7 @@
 ghost use Rattle.std.specs.Prelude.{◌≡◌, [], ◌∷◌};
 ghost use Rattle.capacity_model.specs.Calls.{reset, read, write, fill, evict};
 ghost use Rattle.replies.specs.Replies.{reply};
-ghost use Rattle.capacity_bytes.specs.Bytes.{setup_by, step_bytes};
+ghost use Rattle.capacity_bytes.specs.Bytes.{setup_by, step_bytes, lent};
 
 use capacity_masks::Setup;
 

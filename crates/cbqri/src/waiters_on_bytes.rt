@@ -3,7 +3,7 @@ ghost use Rattle.std.specs.Prelude.{◌≡◌, [], ◌∷◌};
 ghost use Rattle.bandwidth_model.specs.Calls.{wait};
 ghost use Rattle.bandwidth_model.specs.Calls as calls;
 ghost use Rattle.replies.specs.Replies.{reply};
-ghost use Rattle.bandwidth_lent.specs.Bytes.{step_bytes};
+ghost use Rattle.bandwidth_lent.specs.Bytes.{step_bytes, lent};
 
 #[unsafe(no_mangle)]
 pub extern "C" fn cbqri_bandwidth_wait(
