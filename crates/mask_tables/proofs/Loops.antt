@@ -13,12 +13,23 @@ use Rattle.tables.specs.Parts.{with_part}
 use Rattle.tables.specs.View.{union_below}
 use Rattle.tables.proofs.Tests.{cases, neqb}
 use Rattle.tables.proofs.Laws.{get_d_zeros}
+use Rattle.tables.proofs.Parts.{row_inside}
 use Rattle.tables.proofs.Union.{union_none, union_next, union_same}
 use Rattle.numbers.specs.Numbers.{value, words_for, number_in, words_of}
 use Rattle.numbers.proofs.Words.{value_pad, words_long, words_at}
 use Rattle.numbers.proofs.Bits.{width_at}
 use Rattle.numbers.proofs.Tables.{filled_to, filled_none, filled_next}
 use Rattle.numbers.proofs.Lists.{words_hold, top_bits, ones_word, words_number_in}
+
+-- ---- a table of masks that is filled, one mask a turn
+
+-- a table that was set to 0 is as long as it was
+pub cleared_long : (b : List ℕ) (n : ℕ) → b ≡ replicate n 0 → length b ≡ n
+cleared_long b n e = ap length e ∙ length-replicate {A = ℕ} n 0
+
+-- the next mask of n words lies among the k masks
+pub next_inside : (n k i w : ℕ) → n ≡ w → i < k → i * n + n ≤ k * w
+next_inside n k i w e l = omega (arith, row_inside k n i l, ap (λ (x : ℕ). k * x) e)
 
 -- ---- a mask of 16 words filled from the front: i words of f, and 0 above
 
