@@ -7,6 +7,7 @@ use native.Mathlib.Nat.{le_trans, le_of_eq}
 use native.Mathlib.Omega.{arith}
 use lib.Dec.{T, eqb, eqb→eq, leb, leb→le, le→leb}
 use lib.ListN.{length, get_or}
+use Rattle.std.specs.Bool.{then_some}
 use Rattle.fields.specs.Registers as reg
 use Rattle.tables.specs.Below.{sum_below, sum_of, all_below}
 use Rattle.tables.specs.View.{union_below}
@@ -23,7 +24,8 @@ use Rattle.bandwidth_model.specs.Waiters.{waiter_ok}
 use Rattle.bandwidth_model.proofs.Words.{shared_0, blocks_0, shared_1, not_0, stored_fields_1, holder_in, holder_shared, not_holder_0}
 use Rattle.bandwidth_model.proofs.Settings.{View, unset, holds, follows, Viewed, OneWeight, TableFacts, table_ok_lem, table_facts}
 use Rattle.bandwidth_wellformed.specs.Bits.{form_at, blocks_at, mark_at, sharing_bits, weight_bits, row_right, right_at, over_at}
-use Rattle.bandwidth_wellformed.specs.Tables.{tables_ok, TableSummed, SummedTables, TablesChecked}
+use Rattle.bandwidth_wellformed.specs.Tables.{tables_ok, Totalled, TableSummed, SummedTables, TablesChecked}
+use Rattle.bandwidth_wellformed.specs.declared.Totals.{Totals}
 use Rattle.bandwidth_wellformed.specs.declared.settings.TableSums.{TableSums}
 use Rattle.bandwidth_wellformed.specs.declared.settings.Sums.{Sums}
 use Rattle.tables.proofs.Union.{union_zero, zero_union, none_bad}
@@ -237,11 +239,18 @@ module _ (su : Setup) (active configured used counters events waiters : List ℕ
 
 -- ---- from the sums of all rows
 
+-- both totals where what is found of the tables is true
+totals_found : (b : Bool) (su : Setup) (active configured used counters events waiters : List ℕ) (x : Totals)
+    → b ≡ tables_ok su active configured used counters events waiters → (T b → Totalled active configured x)
+    → TablesChecked su active configured used counters events waiters (then_some b x)
+totals_found true su active configured used counters events waiters x e f = (subst T e tt, f tt)
+totals_found false su active configured used counters events waiters x e f = subst (λ (v : Bool). T (not v)) e tt
+
 pub tables_by : (su : Setup) (active configured used counters events waiters : List ℕ) {s : Sums} {k e w a c : Bool} → SummedTables su active configured used counters events waiters s k e w
     → a ≡ (eqb s.active.form 0 && s.active.rows && leb s.active.blocks su.mrbwb)
     → c ≡ (eqb s.configured.form 0 && s.configured.rows && leb s.configured.blocks su.mrbwb)
     → TablesChecked su active configured used counters events waiters
-    (record { ok = a && c && eqb s.over 0 && k && e && w; active = s.active.blocks; configured = s.configured.blocks })
+    (then_some (a && c && eqb s.over 0 && k && e && w) (record { active = s.active.blocks; configured = s.configured.blocks }))
 unfolding pairs
 tables_by su active configured used counters events waiters {s} {k} {e} {w} {a} {c} t ea ec =
     let x = table_test su active t.sized.active_long t.active_fits t.summed.active ea in
@@ -250,8 +259,6 @@ tables_by su active configured used counters events waiters {s} {k} {e} {w} {a} 
     ap (λ (n : ℕ). eqb n 0) t.summed.over ∙ used_test su.q (su.nr * su.na) active used
     ∙ ap (λ (n : ℕ). all_below n (λ i. leb (get_or used i 0) (rbwb_of (get_or active i 0) * su.q))) (sym t.sized.used_long) in
     let both : (a && c) ≡ (table_ok su active && table_ok su configured) = rw (x.0, y.0) refl in
-    record {
-      ok = tables_test su active configured used counters events waiters t.sized both o t.counters_are t.events_are t.waiters_are;
-      active = λ h. x.1 (search (and_l, and_r) depth 8);
-      configured = λ h. y.1 (search (and_l, and_r) depth 8);
-    }
+    totals_found (a && c && eqb s.over 0 && k && e && w) su active configured used counters events waiters _
+    (tables_test su active configured used counters events waiters t.sized both o t.counters_are t.events_are t.waiters_are)
+    (λ h. record { active = x.1 (search (and_l, and_r) depth 8); configured = y.1 (search (and_l, and_r) depth 8) })

@@ -1,5 +1,5 @@
 -- Well-formed tables: check 3 without the registers and the pool; the sums of rows that it is found by.
-use Rattle.std.specs.Prelude.{◌≡◌, Bool, ◌&&◌, List, ℕ, ◌+◌, ◌*◌, ◌^◌, ◌≤◌, ◌<◌, T, leb, length, get_or}
+use Rattle.std.specs.Prelude.{◌≡◌, Bool, not, ◌&&◌, Option, Some, None, List, ℕ, ◌+◌, ◌*◌, ◌^◌, ◌≤◌, ◌<◌, T, leb, length, get_or}
 use Rattle.std.specs.Int.Bits.{bit_or}
 use Rattle.fields.specs.Registers as reg
 use Rattle.tables.specs.Below.{all_below, sum_below}
@@ -11,7 +11,7 @@ use Rattle.bandwidth_model.specs.View.{Sized}
 use Rattle.bandwidth_model.specs.Waiters.{waiter_ok}
 use Rattle.bandwidth_model.specs.Model.{table_ok}
 use Rattle.bandwidth_wellformed.specs.Bits.{form_at, blocks_at, right_at, over_at, AtMost}
-use Rattle.bandwidth_wellformed.specs.declared.TablesOk.{TablesOk}
+use Rattle.bandwidth_wellformed.specs.declared.Totals.{Totals}
 use Rattle.bandwidth_wellformed.specs.declared.settings.TableSums.{TableSums}
 use Rattle.bandwidth_wellformed.specs.declared.settings.Sums.{Sums}
 
@@ -22,11 +22,15 @@ tables_ok su active configured used counters events waiters =
     && all_below su.nm (λ i. counter_ok reg.bandwidth_counter reg.bandwidth_ctr su.w (get_or counters i 0))
     && all_below su.nm (λ i. setting_ok su.na Bandwidth (get_or events i 0)) && all_below su.nr (λ i. waiter_ok su (get_or waiters i 0))
 
--- whether the tables are well formed, and what each settings table then reserves
-pub record TablesChecked (su : Setup) (in_force stored used counters events waiters : List ℕ) (r : TablesOk) : Type 0 where
-  pub ok : r.ok ≡ tables_ok su in_force stored used counters events waiters
-  pub active : T r.ok → r.active ≡ total in_force
-  pub configured : T r.ok → r.configured ≡ total stored
+-- the totals are what the two settings tables reserve
+pub record Totalled (in_force stored : List ℕ) (t : Totals) : Type 0 where
+  pub active : t.active ≡ total in_force
+  pub configured : t.configured ≡ total stored
+
+-- both totals, exactly where the tables are well formed
+abbrev pub TablesChecked : Setup → List ℕ → List ℕ → List ℕ → List ℕ → List ℕ → List ℕ → Option Totals → Type 0
+TablesChecked su in_force stored used counters events waiters (Some t) = T (tables_ok su in_force stored used counters events waiters) × Totalled in_force stored t
+TablesChecked su in_force stored used counters events waiters None = T (not (tables_ok su in_force stored used counters events waiters))
 
 -- ---- sums of rows
 

@@ -19,33 +19,32 @@ pub use parts::{Span, span_at};
 pub use settings::{Sums, TableSums, add_sums, no_sums, sum_rows};
 use settings::{sum_tables, table_ok};
 
-// Whether the tables are well formed, and the blocks that each settings table reserves.
+// The blocks that the holders in force and the holders configured reserve.
 #[derive(Clone, Copy)]
-pub struct TablesOk {
-    pub ok: bool,
+pub struct Totals {
     pub active: u64,
     pub configured: u64,
 }
 
-// The same from the sums of all rows and the checks of counters, counter settings and waiters.
+// The totals of well-formed tables, from the sums of all rows and the checks of counters, counter settings and waiters.
 pub fn tables_by(
     setup: Setup,
     sums: Sums,
     counters_ok: bool,
     events_ok: bool,
     waiters_ok: bool,
-) -> TablesOk
+) -> Option<Totals>
     ensures { (active configured used counters events waiters : List ℕ) → SummedTables (setup_of setup) active configured used counters events waiters sums counters_ok events_ok waiters_ok → TablesChecked (setup_of setup) active configured used counters events waiters result }
 {
     let active = sums.active;
     let configured = sums.configured;
     let a = table_ok(active, setup.mrbwb);
     let c = table_ok(configured, setup.mrbwb);
-    TablesOk {
-        ok: a & c & (sums.over == 0) & counters_ok & events_ok & waiters_ok,
+    let ok = a & c & (sums.over == 0) & counters_ok & events_ok & waiters_ok;
+    ok.then_some(Totals {
         active: active.blocks as u64,
         configured: configured.blocks as u64,
-    }
+    })
 }
 
 // The same of whole tables.
@@ -57,7 +56,7 @@ pub fn tables_ok(
     counters: &[u64],
     events: &[u16],
     waiters: &[u64],
-) -> TablesOk
+) -> Option<Totals>
     requires { Ranges (setup_of setup) × Sized (setup_of setup) active.now configured.now used.now counters.now events.now waiters.now }
     ensures { TablesChecked (setup_of setup) active.now configured.now used.now counters.now events.now waiters.now result }
 {
