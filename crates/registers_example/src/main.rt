@@ -14,51 +14,22 @@ use std::io;
 
 const ALL: u64 = 0xffff_ffff_ffff_ffff;
 
-// Writes to standard output.
-fn text(rt: &impl Print, s: &str) -> io::Result<()> {
-    print!(rt; "{s}")
-}
-
-// A name and a number in decimal.
-fn number(rt: &impl Print, name: &str, value: u64) -> io::Result<()> {
-    print!(rt; " {name} {value}")
-}
-
-// A word as 16 hexadecimal digits, after a lead.
-fn hex(rt: &impl Print, lead: &str, word: u64) -> io::Result<()> {
-    print!(rt; "{lead}{word:016x}")
-}
-
-// The start of a line: the case, the register and its word.
-fn start(rt: &impl Print, case: &str, register: &str, word: u64) -> io::Result<()> {
-    text(rt, case)?;
-    text(rt, register)?;
-    hex(rt, " ", word)
-}
-
-// The end of a line: the fields packed again.
-fn end(rt: &impl Print, word: u64) -> io::Result<()> {
-    hex(rt, " -> ", word)?;
-    text(rt, "\n")
-}
-
 fn capabilities(rt: &impl Print, case: &str, word: u64) -> io::Result<()> {
-    start(rt, case, " capabilities  ", word)?;
     let f = BandwidthCapabilities::unpack(word);
-    number(rt, "ver", f.ver)?;
-    number(rt, "nbwblks", f.nbwblks)?;
-    number(rt, "mrbwb", f.mrbwb)?;
-    end(rt, f.pack())
+    let packed = f.pack();
+    println!(rt;
+        "{case} capabilities   {word:016x} ver {} nbwblks {} mrbwb {} -> {packed:016x}",
+        f.ver, f.nbwblks, f.mrbwb
+    )
 }
 
 fn bw_alloc(rt: &impl Print, case: &str, word: u64) -> io::Result<()> {
-    start(rt, case, " bw_alloc      ", word)?;
     let f = BwAlloc::unpack(word);
-    number(rt, "rbwb", f.rbwb)?;
-    number(rt, "mweight", f.mweight)?;
-    number(rt, "sharedat", f.sharedat)?;
-    number(rt, "useshared", f.useshared)?;
-    end(rt, f.pack())
+    let packed = f.pack();
+    println!(rt;
+        "{case} bw_alloc       {word:016x} rbwb {} mweight {} sharedat {} useshared {} -> {packed:016x}",
+        f.rbwb, f.mweight, f.sharedat, f.useshared
+    )
 }
 
 // alloc_ctl's fields as they are held with `na` access types.
@@ -69,16 +40,12 @@ fn held_alloc_ctl(na: u64, word: u64) -> AllocCtl
 }
 
 fn alloc_ctl(rt: &impl Print, case: &str, na: u64, word: u64) -> io::Result<()> {
-    text(rt, case)?;
-    number(rt, "alloc_ctl NA", na)?;
-    hex(rt, " ", word)?;
     let f = held_alloc_ctl(na, word);
-    number(rt, "op", f.op)?;
-    number(rt, "at", f.at)?;
-    number(rt, "rcid", f.rcid)?;
-    number(rt, "status", f.status)?;
-    number(rt, "busy", f.busy)?;
-    end(rt, f.pack())
+    let packed = f.pack();
+    println!(rt;
+        "{case} alloc_ctl NA {na} {word:016x} op {} at {} rcid {} status {} busy {} -> {packed:016x}",
+        f.op, f.at, f.rcid, f.status, f.busy
+    )
 }
 
 // mon_ctl's fields as they are held with `na` access types.
@@ -89,69 +56,66 @@ fn held_mon_ctl(na: u64, word: u64) -> MonCtl
 }
 
 fn mon_ctl(rt: &impl Print, case: &str, na: u64, word: u64) -> io::Result<()> {
-    text(rt, case)?;
-    number(rt, "mon_ctl NA", na)?;
-    hex(rt, "   ", word)?;
     let f = held_mon_ctl(na, word);
-    number(rt, "op", f.op)?;
-    number(rt, "at", f.at)?;
-    number(rt, "mcid", f.mcid)?;
-    number(rt, "evtid", f.evtid)?;
-    number(rt, "atv", f.atv)?;
-    number(rt, "status", f.status)?;
-    number(rt, "busy", f.busy)?;
-    end(rt, f.pack())
+    let packed = f.pack();
+    println!(rt;
+        "{case} mon_ctl NA {na}   {word:016x} op {} at {} mcid {} evtid {} atv {} status {} busy {} -> {packed:016x}",
+        f.op, f.at, f.mcid, f.evtid, f.atv, f.status, f.busy
+    )
 }
 
 fn setting(rt: &impl Print, case: &str, word: u64) -> io::Result<()> {
-    start(rt, case, " setting       ", word)?;
     let f = CounterSetting::unpack(word);
-    number(rt, "evtid", f.evtid)?;
-    number(rt, "at", f.at)?;
-    number(rt, "atv", f.atv)?;
-    end(rt, f.pack())
+    let packed = f.pack();
+    println!(rt;
+        "{case} setting        {word:016x} evtid {} at {} atv {} -> {packed:016x}",
+        f.evtid, f.at, f.atv
+    )
 }
 
 fn mon_ctr_val(rt: &impl Print, case: &str, word: u64) -> io::Result<()> {
-    start(rt, case, " mon_ctr_val   ", word)?;
     let f = BandwidthCounter::unpack(word);
-    number(rt, "ctr", f.ctr)?;
-    number(rt, "invalid", f.invalid)?;
-    number(rt, "ovf", f.ovf)?;
-    end(rt, f.pack())
+    let packed = f.pack();
+    println!(rt;
+        "{case} mon_ctr_val    {word:016x} ctr {} invalid {} ovf {} -> {packed:016x}",
+        f.ctr, f.invalid, f.ovf
+    )
 }
 
 fn capacity_capabilities(rt: &impl Print, case: &str, word: u64) -> io::Result<()> {
-    start(rt, case, " capabilities  ", word)?;
     let f = CapacityCapabilities::unpack(word);
-    number(rt, "ver", f.ver)?;
-    number(rt, "ncblks", f.ncblks)?;
-    number(rt, "frcid", f.frcid)?;
-    end(rt, f.pack())
+    let packed = f.pack();
+    println!(rt;
+        "{case} capabilities   {word:016x} ver {} ncblks {} frcid {} -> {packed:016x}",
+        f.ver, f.ncblks, f.frcid
+    )
 }
 
 fn capacity_mon_ctr_val(rt: &impl Print, case: &str, word: u64) -> io::Result<()> {
-    start(rt, case, " mon_ctr_val   ", word)?;
     let f = CapacityCounter::unpack(word);
-    number(rt, "ctr", f.ctr)?;
-    number(rt, "invalid", f.invalid)?;
-    end(rt, f.pack())
+    let packed = f.pack();
+    println!(rt;
+        "{case} mon_ctr_val    {word:016x} ctr {} invalid {} -> {packed:016x}",
+        f.ctr, f.invalid
+    )
 }
 
 fn iommu_qosid(rt: &impl Print, case: &str, word: u64) -> io::Result<()> {
-    start(rt, case, " iommu_qosid   ", word)?;
     let f = IommuQosid::unpack(word);
-    number(rt, "rcid", f.rcid)?;
-    number(rt, "mcid", f.mcid)?;
-    end(rt, f.pack())
+    let packed = f.pack();
+    println!(rt;
+        "{case} iommu_qosid    {word:016x} rcid {} mcid {} -> {packed:016x}",
+        f.rcid, f.mcid
+    )
 }
 
 fn dc_ta(rt: &impl Print, case: &str, word: u64) -> io::Result<()> {
-    start(rt, case, " DC.ta         ", word)?;
     let f = DcTa::unpack(word);
-    number(rt, "rcid", f.rcid)?;
-    number(rt, "mcid", f.mcid)?;
-    end(rt, f.pack())
+    let packed = f.pack();
+    println!(rt;
+        "{case} DC.ta          {word:016x} rcid {} mcid {} -> {packed:016x}",
+        f.rcid, f.mcid
+    )
 }
 
 // A CONFIG_LIMIT: its operand in bw_alloc, and alloc_ctl after it.
@@ -166,21 +130,12 @@ fn configured(before: u64, control: u64) -> u64 {
     if f.status != 1 {
         return before;
     }
-    if f.atv == 1 {
-        CounterSetting {
-            evtid: f.evtid,
-            at: f.at,
-            atv: 1,
-        }
-        .pack()
-    } else {
-        CounterSetting {
-            evtid: f.evtid,
-            at: 0,
-            atv: 0,
-        }
-        .pack()
+    CounterSetting {
+        evtid: f.evtid,
+        at: if f.atv == 1 { f.at } else { 0 },
+        atv: f.atv,
     }
+    .pack()
 }
 
 // A CONFIG_EVENT: mon_ctl after it, and the counter's setting, which was `before`.
