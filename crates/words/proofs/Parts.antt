@@ -5,10 +5,11 @@ use Prim.Native.Nat.{ℕ, zero, suc, ◌+◌, ◌-◌, ◌*◌, ◌/◌, ◌^◌
 use native.Mathlib.Nat.{zero-mul, suc-mul, suc-add, zero-add, add_comm, le-div_iff_mul-le, le_of_mul-le-mul_right, div-eq_of_eq-mul_left}
 use native.Mathlib.Omega.{arith}
 use lib.ListN.{length, get_or, take, drop, take-append-drop, length-drop, get_or-eq_default}
+use Rattle.std.proofs.lemmas.List.{get_or_default}
 use lib.Seq.{take_all, length-take-le, drop-drop, take_at, drop_at, ext_get_or}
 use Rattle.tables.specs.Parts.{part, with_part}
 use Rattle.words.specs.Words.{word_of, words_of, bytes_of_all, table_of, Holds, Below}
-use Rattle.words.proofs.Word.{word_bytes}
+use Rattle.words.proofs.OneWord.{word_bytes}
 use Rattle.words.proofs.Table.{length_words, length_all, all_append, word_at, bytes_at, bytes_words, below_all, words_below}
 
 -- ---- the words of a part
@@ -117,6 +118,14 @@ module _ (k : ℕ) (bs : List ℕ) where
 
   pub entry_out : (i : ℕ) → length bs / k ≤ i → 0 ≡ get_or (table_of k bs) i 0
   entry_out i h = sym (get_or-eq_default (table_of k bs) 0 {n = i} (omega (arith, entries)))
+
+-- the same over what a read gives where there is no word
+module _ (k : ℕ) (bs : List ℕ) where
+  pub entry_at : (i w d : ℕ) → i < length bs / k → w ≡ word_of (take k (drop (i * k) bs)) → w ≡ get_or (table_of k bs) i d
+  entry_at i w d h e = entry_in k bs i w h e ∙ get_or_default (table_of k bs) i 0 d (omega (arith, entries k bs))
+
+  pub entry_none : (i d : ℕ) → length bs / k ≤ i → d ≡ get_or (table_of k bs) i d
+  entry_none i d h = sym (get_or-eq_default (table_of k bs) d {n = i} (omega (arith, entries k bs)))
 
 below_every : (m : ℕ) (xs : List ℕ) → 0 < m → Below m xs → (i : ℕ) → get_or xs i 0 < m
 below_every m [] z h i = z

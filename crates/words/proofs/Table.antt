@@ -7,7 +7,7 @@ use native.Mathlib.Omega.{arith}
 use lib.ListN.{length, take, drop, get_or, set, replicate, replicate-append-replicate, length-append, length-drop, take-append-drop, drop_of_length-le}
 use lib.Seq.{length-take-le, drop-drop, take_at, drop_at, set_split, drop-cons}
 use Rattle.words.specs.Words.{word_of, bytes_of, words_of, bytes_of_all, stored, Below}
-use Rattle.words.proofs.Word.{length_bytes, stored_at, stored_after, bytes_word, word_bytes, word_below}
+use Rattle.words.proofs.OneWord.{length_bytes, stored_at, stored_after, bytes_word, word_bytes, word_below}
 
 -- ---- lengths
 

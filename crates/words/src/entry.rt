@@ -3,7 +3,18 @@ ghost use Rattle.std.specs.Prelude.{◌≡◌, length, get_or};
 ghost use Rattle.tables.specs.View.{union_below};
 ghost use Rattle.words.specs.Words.{table_of};
 
-use crate::{load16, load32, load64};
+use crate::{LittleEndian, load16, load32, load64};
+
+// Word i of a table of bytes, `outside` where the table has none.
+pub fn word<W: LittleEndian>(bytes: &[u8], i: usize, outside: W) -> W
+    ensures { W.number result ≡ get_or (table_of W.BYTES bytes.now) i (W.number outside) }
+{
+    if i < bytes.len() / W::BYTES {
+        W::load(bytes, i * W::BYTES)
+    } else {
+        outside
+    }
+}
 
 pub fn word16(b: &[u8], i: usize) -> u16
     ensures { result ≡ get_or (table_of 2 b.now) i 0 }

@@ -1,14 +1,16 @@
 // Little-endian words of 16, 32 and 64 bits in bytes. Each width is made of two of half the width.
 #![tactic(auto)]
 
+mod endian;
 mod entry;
 mod part;
 
 ghost use Rattle.std.specs.Prelude.{◌≡◌, ◌+◌, ◌*◌, ◌<◌, ◌≤◌, ◌^◌, length, take, drop, replicate};
 ghost use Rattle.words.specs.Words.{word_of, words_of, bytes_of_all, stored, with_word};
 
-pub use entry::{union64, word16, word32, word64};
-pub use part::{load_part16, load_part32, store_part32, store_part64};
+pub use endian::LittleEndian;
+pub use entry::{union64, word, word16, word32, word64};
+pub use part::{load_part, load_part16, load_part32, store_part, store_part32, store_part64};
 
 // The byte at `at`.
 fn load8(b: &[u8], at: usize) -> u64
@@ -78,6 +80,26 @@ pub fn store64(b: &mut [u8], at: usize, w: u64)
 }
 
 // The words at the front of `bytes`, as many as `words` holds.
+pub fn decode<W: LittleEndian>(bytes: &[u8], words: &mut [W])
+    requires { length words.old * W.BYTES ≤ length bytes.now }
+    ensures { W.numbers words.new ≡ words_of W.BYTES (length words.old) bytes.now }
+{
+    for (i, word) in words.iter_mut().enumerate() {
+        *word = W::load(bytes, i * W::BYTES);
+    }
+}
+
+// The bytes of `words`, which fill `bytes`.
+pub fn encode<W: LittleEndian>(words: &[W], bytes: &mut [u8])
+    requires { length words.now * W.BYTES ≡ length bytes.old }
+    ensures { bytes.new ≡ bytes_of_all W.BYTES (W.numbers words.now) }
+{
+    for (i, word) in words.iter().enumerate() {
+        word.store(bytes, i * W::BYTES);
+    }
+}
+
+// The words at the front of `bytes`, as many as `words` holds.
 pub fn decode16(bytes: &[u8], words: &mut [u16])
     requires { length words.old * 2 ≤ length bytes.now }
     ensures { words.new ≡ words_of 2 (length words.old) bytes.now }
@@ -121,6 +143,15 @@ pub fn encode64(words: &[u64], bytes: &mut [u8])
 {
     for i in 0..words.len() {
         store64(bytes, i * 8, words[i]);
+    }
+}
+
+// Stores a word as word i; a place outside changes nothing.
+pub fn put<W: LittleEndian>(bytes: &mut [u8], i: usize, word: W)
+    ensures { bytes.new ≡ with_word W.BYTES bytes.old i (W.number word) }
+{
+    if i < bytes.len() / W::BYTES {
+        word.store(bytes, i * W::BYTES);
     }
 }
 

@@ -1,5 +1,5 @@
 use native.Mathlib.Omega.{arith}
-use Rattle.words.proofs.Word.{word_join}
+use Rattle.words.proofs.OneWord.{word_join}
 use Rattle.words.proofs.load32.Goals as goal
 
 pub returns : goal.returns

@@ -1,6 +1,6 @@
 use mathlib.Core.Path.{sym}
 use native.Mathlib.Omega.{arith}
-use Rattle.words.proofs.Word.{word_byte}
+use Rattle.words.proofs.OneWord.{word_byte}
 use Rattle.words.proofs.load8.Goals as goal
 
 pub overflow_cast-result : goal.overflow_cast-result

@@ -1,4 +1,4 @@
-use Rattle.words.proofs.Word.{put_inside, put_outside}
+use Rattle.words.proofs.OneWord.{put_inside, put_outside}
 use Rattle.words.proofs.put64.Goals as goal
 
 pub returns-then-i-b : goal.returns-then-i-b

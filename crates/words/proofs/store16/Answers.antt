@@ -1,5 +1,5 @@
 use native.Mathlib.Omega.{arith}
-use Rattle.words.proofs.Word.{store_join}
+use Rattle.words.proofs.OneWord.{store_join}
 use Rattle.words.proofs.store16.Goals as goal
 
 pub returns : goal.returns

@@ -1,5 +1,5 @@
 use native.Mathlib.Omega.{arith}
-use Rattle.words.proofs.Word.{store_byte}
+use Rattle.words.proofs.OneWord.{store_byte}
 use Rattle.words.proofs.store8.Goals as goal
 
 pub returns : goal.returns

@@ -1,0 +1,109 @@
+// Little-endian words in bytes, over their width.
+ghost use Rattle.std.specs.Prelude.{◌≡◌, List, ℕ, ◌+◌, ◌*◌, ◌≤◌, length, map, take, drop};
+ghost use Rattle.std.proofs.Common.{sym};
+ghost use Rattle.std.proofs.Math.Dec.{lit≤};
+ghost use Rattle.std.proofs.lemmas.List.{map-id};
+ghost use Rattle.words.specs.Words.{word_of, stored};
+
+// A number that stands in bytes, the lowest first.
+pub trait LittleEndian: Copy {
+    // The number that a word is, and those that a row of words is.
+    ghost number: { Self → ℕ };
+
+    ghost numbers: { List Self → List ℕ };
+
+    // How many bytes a word has.
+    ghost BYTES: { ℕ };
+
+    const BYTES: usize;
+
+    // The word at `at`.
+    fn load(bytes: &[u8], at: usize) -> Self
+        requires { at + BYTES ≤ length bytes.now }
+        ensures { number result ≡ word_of (take BYTES (drop at bytes.now)) };
+
+    // Stores the word at `at`.
+    fn store(self, bytes: &mut [u8], at: usize)
+        requires { at + BYTES ≤ length bytes.old }
+        ensures { bytes.new ≡ stored BYTES bytes.old at (number self) };
+
+    ghost some_bytes: { 1 ≤ BYTES };
+
+    ghost numbers_are: { (words : List Self) → numbers words ≡ map number words };
+}
+
+// The N bytes at `at`.
+fn chunk<const N: usize>(bytes: &[u8], at: usize) -> [u8; N]
+    requires { at + N ≤ length bytes.now }
+    ensures { result ≡ take N (drop at bytes.now) }
+{
+    let mut chunk = [0u8; N];
+    chunk.copy_from_slice(&bytes[at..at + N]);
+    chunk
+}
+
+impl LittleEndian for u16 {
+    ghost number = { λ w. w };
+
+    ghost numbers = { λ ws. ws };
+
+    ghost BYTES = { 2 };
+
+    const BYTES: usize = 2;
+
+    fn load(bytes: &[u8], at: usize) -> u16 {
+        u16::from_le_bytes(chunk(bytes, at))
+    }
+
+    fn store(self, bytes: &mut [u8], at: usize) {
+        bytes[at..at + 2].copy_from_slice(&self.to_le_bytes());
+    }
+
+    ghost some_bytes = { lit≤ tt };
+
+    ghost numbers_are = { λ ws. sym (map-id ws) };
+}
+
+impl LittleEndian for u32 {
+    ghost number = { λ w. w };
+
+    ghost numbers = { λ ws. ws };
+
+    ghost BYTES = { 4 };
+
+    const BYTES: usize = 4;
+
+    fn load(bytes: &[u8], at: usize) -> u32 {
+        u32::from_le_bytes(chunk(bytes, at))
+    }
+
+    fn store(self, bytes: &mut [u8], at: usize) {
+        bytes[at..at + 4].copy_from_slice(&self.to_le_bytes());
+    }
+
+    ghost some_bytes = { lit≤ tt };
+
+    ghost numbers_are = { λ ws. sym (map-id ws) };
+}
+
+impl LittleEndian for u64 {
+    ghost number = { λ w. w };
+
+    ghost numbers = { λ ws. ws };
+
+    ghost BYTES = { 8 };
+
+    const BYTES: usize = 8;
+
+    fn load(bytes: &[u8], at: usize) -> u64 {
+        u64::from_le_bytes(chunk(bytes, at))
+    }
+
+    fn store(self, bytes: &mut [u8], at: usize) {
+        bytes[at..at + 8].copy_from_slice(&self.to_le_bytes());
+    }
+
+    ghost some_bytes = { lit≤ tt };
+
+    ghost numbers_are = { λ ws. sym (map-id ws) };
+}
