@@ -36,7 +36,7 @@ use Rattle.bandwidth_settings.proofs.Rows.{row_reserves}
 use Rattle.bandwidth_grants.specs.View.{usage}
 use Rattle.bandwidth_grants.specs.Grants.{RowFits, RowGiven}
 use Rattle.bandwidth_grants.proofs.Rows.{row_fits, row_granted, row_spent}
-use Rattle.bandwidth.specs.declared.check.Totals.{Totals}
+use Rattle.bandwidth_wellformed.specs.declared.Totals.{Totals}
 use Rattle.bandwidth.specs.View.{outcome}
 use Rattle.bandwidth.specs.Checked.{Passes, Fresh}
 use Rattle.bandwidth.proofs.Checks.{passing, active_facts, usage_formed}

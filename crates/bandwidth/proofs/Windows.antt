@@ -13,7 +13,7 @@ use Rattle.bandwidth_model.proofs.Waiters.{served_ctl, served_value, served_even
 use Rattle.bandwidth_grants.specs.View.{usage}
 use Rattle.bandwidth_waiters.specs.Turns.{Tables, tables, turns, Opens}
 use Rattle.bandwidth_waiters.proofs.Windows.{Went, went}
-use Rattle.bandwidth.specs.declared.check.Totals.{Totals}
+use Rattle.bandwidth_wellformed.specs.declared.Totals.{Totals}
 use Rattle.bandwidth.specs.Checked.{Passes}
 
 -- what is counted, with all else of the monitor as it was

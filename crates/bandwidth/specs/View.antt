@@ -1,17 +1,13 @@
 -- The code's record, tables and answers as the model's.
-use Rattle.std.specs.Prelude.{List, ℕ, set, replicate}
+use Rattle.std.specs.Prelude.{List, ℕ, Result, Ok, Err, set, replicate}
 use Rattle.access.specs.Refusals.{number_of}
+use Rattle.access.specs.declared.Refusal.{Refusal}
 use Rattle.bandwidth_model.specs.Rules.{Setup, holder_word, sharer_word, reset_weight}
 use Rattle.bandwidth_model.specs.Calls.{Answer, refused, done, value, granted}
 use Rattle.bandwidth_model.specs.Model.{State, Outcome}
 use Rattle.bandwidth_setup.specs.View.{setup_of}
 use Rattle.bandwidth.specs.declared.Record.{Record}
-use Rattle.access.specs.declared.Ack.{Ack}
-use Rattle.access.specs.declared.Ack.TheVariants as ack
-use Rattle.access.specs.declared.Reading.{Reading}
-use Rattle.access.specs.declared.Reading.TheVariants as reading
-use Rattle.bandwidth.specs.declared.Granting.{Granting}
-use Rattle.bandwidth.specs.declared.Granting.TheVariants as granting
+use Rattle.bandwidth_grants.specs.declared.Grant.{Grant}
 
 -- the record with the tables in force, configured, used, counters, counter settings and waiters
 abbrev pub state : Record → List ℕ → List ℕ → List ℕ → List ℕ → List ℕ → List ℕ → State
@@ -27,17 +23,17 @@ abbrev pub outcome : Answer → State → Outcome
 outcome a s = record { answer = a; state = s }
 
 -- the number and values for each case of an answer (rules A4 and R1 to R11)
-abbrev pub ack_of : Ack → Answer
-ack_of ack.Done = done
-ack_of (ack.Refused r) = refused (number_of r)
+abbrev pub ack_of : {X : Type 0} → Result X Refusal → Answer
+ack_of (Ok x) = done
+ack_of (Err r) = refused (number_of r)
 
-abbrev pub reading_of : Reading → Answer
-reading_of (reading.Value v) = value v
-reading_of (reading.Refused r) = refused (number_of r)
+abbrev pub reading_of : Result ℕ Refusal → Answer
+reading_of (Ok v) = value v
+reading_of (Err r) = refused (number_of r)
 
-abbrev pub granting_of : Granting → Answer
-granting_of (granting.Bytes g) = granted g.reserved g.pool
-granting_of (granting.Refused r) = refused (number_of r)
+abbrev pub granting_of : Result Grant Refusal → Answer
+granting_of (Ok g) = granted g.reserved g.pool
+granting_of (Err r) = refused (number_of r)
 
 -- the n words of RCID 0 after a reset
 unfoldable pub reset_row : Setup → ℕ → List ℕ

@@ -9,10 +9,8 @@ mod row;
 mod wait;
 mod window;
 
-use access::{Ack, Reading, Refusal};
-use bandwidth_grants::Grant;
 use bandwidth_setup::Setup;
-pub use check::Totals;
+pub use bandwidth_wellformed::Totals;
 pub use reset::reset_row;
 
 // The set-up, the registers as they read, and the bytes that the pool gave.
@@ -24,29 +22,4 @@ pub struct Record {
     pub alloc_ctl: u64,
     pub bw_alloc: u64,
     pub pool: u64,
-}
-
-// The answer of a request: the bytes of the reservation and of the pool, or why it is refused.
-#[derive(Clone, Copy)]
-pub enum Granting {
-    Bytes(Grant),
-    Refused(Refusal),
-}
-
-#[derive(Clone, Copy)]
-pub struct Acked {
-    pub record: Record,
-    pub ack: Ack,
-}
-
-#[derive(Clone, Copy)]
-pub struct Read {
-    pub record: Record,
-    pub reading: Reading,
-}
-
-#[derive(Clone, Copy)]
-pub struct Served {
-    pub record: Record,
-    pub granting: Granting,
 }

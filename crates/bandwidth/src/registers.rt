@@ -6,20 +6,20 @@ ghost use Rattle.bandwidth_model.specs.Model.{capabilities, register, write_at, 
 ghost use Rattle.bandwidth_setup.specs.View.{setup_of};
 ghost use Rattle.bandwidth.specs.View.{state, outcome, ack_of, reading_of};
 ghost use Rattle.bandwidth.specs.Checked.{Passes};
-ghost use Rattle.bandwidth.specs.declared.check.Totals as totals;
+ghost use Rattle.bandwidth_wellformed.specs.declared.Totals as totals;
 
-use crate::check::{Check, Totals};
-use crate::{Acked, Read, Record};
-use access::{Ack, Reading, Verdict, part, read_verdict, write_verdict};
+use crate::Record;
+use access::{Refusal, check_read, check_write, part};
 use bandwidth_settings::{bw_word, write_alloc};
+use bandwidth_wellformed::Totals;
 use fields::BandwidthCapabilities;
 use monitor::{Registers, bandwidth_status, write_mon};
 
 impl Record {
     // What capabilities reads.
-    fn capabilities(self) -> u64
-        requires { Ranges (setup_of self.setup) }
-        ensures { result ≡ capabilities (setup_of self.setup) }
+    fn capabilities(&self) -> u64
+        requires { Ranges (setup_of self.now.setup) }
+        ensures { result ≡ capabilities (setup_of self.now.setup) }
     {
         BandwidthCapabilities {
             ver: 1,
@@ -30,9 +30,9 @@ impl Record {
     }
 
     // The register that an offset lies in.
-    fn register(self, n: u64) -> u64
-        requires { Ranges (setup_of self.setup) }
-        ensures { (active configured used counters events waiters : List ℕ) → result ≡ register (state self active configured used counters events waiters) n }
+    fn register(&self, n: u64) -> u64
+        requires { Ranges (setup_of self.now.setup) }
+        ensures { (active configured used counters events waiters : List ℕ) → result ≡ register (state self.now active configured used counters events waiters) n }
     {
         match n {
             0 => self.capabilities(),
@@ -44,22 +44,17 @@ impl Record {
     }
 
     // The answer of a read that passes checks 1 to 3, whatever the tables are.
-    pub fn reading(self, size: u64, offset: u64) -> Reading
-        requires { Ranges (setup_of self.setup) }
-        ensures { (active configured used counters events waiters : List ℕ) (t : totals.Totals) → Passes (state self active configured used counters events waiters) t
-            → outcome (reading_of result) (state self active configured used counters events waiters) ≡ step (state self active configured used counters events waiters) (read size offset) }
+    pub fn reading(&self, size: u64, offset: u64) -> Result<u64, Refusal>
+        requires { Ranges (setup_of self.now.setup) }
+        ensures { (active configured used counters events waiters : List ℕ) (t : totals.Totals) → Passes (state self.now active configured used counters events waiters) t
+            → outcome (reading_of result) (state self.now active configured used counters events waiters) ≡ step (state self.now active configured used counters events waiters) (read size offset) }
     {
-        match read_verdict(size, offset) {
-            Verdict::Failed(why) => Reading::Refused(why),
-            Verdict::Passed => {
-                let word = self.register(offset / 8);
-                Reading::Value(part(size, offset, word))
-            }
-        }
+        check_read(size, offset)?;
+        Ok(part(size, offset, self.register(offset / 8)))
     }
 
     pub fn read(
-        self,
+        &self,
         active: &[u32],
         configured: &[u32],
         used: &[u32],
@@ -68,27 +63,16 @@ impl Record {
         waiters: &[u64],
         size: u64,
         offset: u64,
-    ) -> Read
-        ensures { outcome (reading_of result.reading) (state result.«record» active.now configured.now used.now counters.now events.now waiters.now) ≡ step (state self active.now configured.now used.now counters.now events.now waiters.now) (read size offset) }
+    ) -> Result<u64, Refusal>
+        ensures { outcome (reading_of result) (state self.now active.now configured.now used.now counters.now events.now waiters.now) ≡ step (state self.now active.now configured.now used.now counters.now events.now waiters.now) (read size offset) }
     {
-        match self.check(active, configured, used, counters, events, waiters) {
-            Check::Failed(why) => Read {
-                record: self,
-                reading: Reading::Refused(why),
-            },
-            Check::Passed(_) => {
-                let reading = self.reading(size, offset);
-                Read {
-                    record: self,
-                    reading,
-                }
-            }
-        }
+        self.check(active, configured, used, counters, events, waiters)?;
+        self.reading(size, offset)
     }
 
     // Stores what a write reaches, and performs its operation.
     fn store(
-        mut self,
+        &mut self,
         active: &[u32],
         configured: &mut [u32],
         used: &[u32],
@@ -98,9 +82,9 @@ impl Record {
         totals: Totals,
         offset: u64,
         value: u64,
-    ) -> Record
-        requires { Passes (state self active.now configured.old used.now counters.old events.old waiters.now) totals }
-        ensures { state result active.now configured.new used.now counters.new events.new waiters.now ≡ write_at (state self active.now configured.old used.now counters.old events.old waiters.now) offset value }
+    )
+        requires { Passes (state self.old active.now configured.old used.now counters.old events.old waiters.now) totals }
+        ensures { state self.new active.now configured.new used.now counters.new events.new waiters.now ≡ write_at (state self.old active.now configured.old used.now counters.old events.old waiters.now) offset value }
     {
         let setup = self.setup;
         match offset {
@@ -124,11 +108,10 @@ impl Record {
             }
             _ => {}
         }
-        self
     }
 
     pub fn write(
-        mut self,
+        &mut self,
         active: &[u32],
         configured: &mut [u32],
         used: &[u32],
@@ -138,29 +121,14 @@ impl Record {
         size: u64,
         offset: u64,
         value: u64,
-    ) -> Acked
-        ensures { outcome (ack_of result.ack) (state result.«record» active.now configured.new used.now counters.new events.new waiters.now) ≡ step (state self active.now configured.old used.now counters.old events.old waiters.now) (write size offset value) }
+    ) -> Result<(), Refusal>
+        ensures { outcome (ack_of result) (state self.new active.now configured.new used.now counters.new events.new waiters.now) ≡ step (state self.old active.now configured.old used.now counters.old events.old waiters.now) (write size offset value) }
     {
-        match self.check(active, configured, used, counters, events, waiters) {
-            Check::Failed(why) => Acked {
-                record: self,
-                ack: Ack::Refused(why),
-            },
-            Check::Passed(totals) => match write_verdict(size, offset, value) {
-                Verdict::Failed(why) => Acked {
-                    record: self,
-                    ack: Ack::Refused(why),
-                },
-                Verdict::Passed => {
-                    let after = self.store(
-                        active, configured, used, counters, events, waiters, totals, offset, value,
-                    );
-                    Acked {
-                        record: after,
-                        ack: Ack::Done,
-                    }
-                }
-            },
-        }
+        let totals = self.check(active, configured, used, counters, events, waiters)?;
+        check_write(size, offset, value)?;
+        self.store(
+            active, configured, used, counters, events, waiters, totals, offset, value,
+        );
+        Ok(())
     }
 }

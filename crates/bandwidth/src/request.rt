@@ -1,16 +1,16 @@
 // Requests.
 ghost use Rattle.std.specs.Prelude.{◌≡◌, ◌<◌};
 ghost use Rattle.access.specs.Refusals.{number_of};
-ghost use Rattle.bandwidth_model.specs.Calls.{Call, request, device_request};
+ghost use Rattle.bandwidth_model.specs.Calls.{Call, granted, request, device_request};
 ghost use Rattle.bandwidth_model.specs.View.{Requests};
 ghost use Rattle.bandwidth_model.specs.Model.{requested, step};
 ghost use Rattle.bandwidth.specs.View.{state, outcome, granting_of};
 ghost use Rattle.bandwidth.specs.Checked.{Passes};
 
-use crate::check::{Check, Totals};
-use crate::{Granting, Record, Served};
+use crate::Record;
 use access::{Refusal, known_at};
-use bandwidth_grants::give;
+use bandwidth_grants::{Grant, give};
+use bandwidth_wellformed::Totals;
 use devices::{identifiers_in, out_of_range};
 use monitor::count_bytes;
 use tables::row_at;
@@ -18,7 +18,7 @@ use tables::row_at;
 impl Record {
     // Grants a request bytes by the words of its RCID, and counts them.
     fn serve(
-        mut self,
+        &mut self,
         active: &[u32],
         configured: &[u32],
         used: &mut [u32],
@@ -31,9 +31,9 @@ impl Record {
         at: u64,
         kind: u64,
         bytes: u32,
-    ) -> Served
-        requires { Passes (state self active.now configured.now used.old counters.old events.now waiters.now) totals × (rcid < self.setup.nr) }
-        ensures { outcome (granting_of result.granting) (state result.«record» active.now configured.now used.new counters.new events.now waiters.now) ≡ requested (state self active.now configured.now used.old counters.old events.now waiters.now) rcid mcid at kind bytes }
+    ) -> Grant
+        requires { Passes (state self.old active.now configured.now used.old counters.old events.now waiters.now) totals × (rcid < self.old.setup.nr) }
+        ensures { outcome (granted result.reserved result.pool) (state self.new active.now configured.now used.new counters.new events.now waiters.now) ≡ requested (state self.old active.now configured.now used.old counters.old events.now waiters.now) rcid mcid at kind bytes }
     {
         let setup = self.setup;
         let at = known_at(setup.na, at);
@@ -50,18 +50,13 @@ impl Record {
             bytes as u64,
         );
         self.pool = given.pool;
-        let sum = given.sum;
-        let grant = given.grant;
-        count_bytes(setup.w, counters, events, mcid, at, kind, sum);
-        Served {
-            record: self,
-            granting: Granting::Bytes(grant),
-        }
+        count_bytes(setup.w, counters, events, mcid, at, kind, given.sum);
+        given.grant
     }
 
     // A request with these identifiers, refused for `unknown` where one of them is out of range.
     fn request_by(
-        mut self,
+        &mut self,
         active: &[u32],
         configured: &[u32],
         used: &mut [u32],
@@ -74,33 +69,23 @@ impl Record {
         at: u64,
         kind: u64,
         bytes: u32,
-    ) -> Served
+    ) -> Result<Grant, Refusal>
         ensures { (c : Call) → Requests c (number_of unknown) rcid mcid at kind bytes
-            → outcome (granting_of result.granting) (state result.«record» active.now configured.now used.new counters.new events.now waiters.now) ≡ step (state self active.now configured.now used.old counters.old events.now waiters.now) c }
+            → outcome (granting_of result) (state self.new active.now configured.now used.new counters.new events.now waiters.now) ≡ step (state self.old active.now configured.now used.old counters.old events.now waiters.now) c }
     {
-        match self.check(active, configured, used, counters, events, waiters) {
-            Check::Failed(why) => Served {
-                record: self,
-                granting: Granting::Refused(why),
-            },
-            Check::Passed(totals) => {
-                let setup = self.setup;
-                if (setup.nr <= rcid) | (setup.nm <= mcid) {
-                    return Served {
-                        record: self,
-                        granting: Granting::Refused(unknown),
-                    };
-                }
-                self.serve(
-                    active, configured, used, counters, events, waiters, totals, rcid, mcid, at,
-                    kind, bytes,
-                )
-            }
+        let totals = self.check(active, configured, used, counters, events, waiters)?;
+        let setup = self.setup;
+        if (setup.nr <= rcid) | (setup.nm <= mcid) {
+            return Err(unknown);
         }
+        Ok(self.serve(
+            active, configured, used, counters, events, waiters, totals, rcid, mcid, at, kind,
+            bytes,
+        ))
     }
 
     pub fn request(
-        mut self,
+        &mut self,
         active: &[u32],
         configured: &[u32],
         used: &mut [u32],
@@ -112,8 +97,8 @@ impl Record {
         at: u64,
         kind: u64,
         bytes: u32,
-    ) -> Served
-        ensures { outcome (granting_of result.granting) (state result.«record» active.now configured.now used.new counters.new events.now waiters.now) ≡ step (state self active.now configured.now used.old counters.old events.now waiters.now) (request rcid mcid at kind bytes) }
+    ) -> Result<Grant, Refusal>
+        ensures { outcome (granting_of result) (state self.new active.now configured.now used.new counters.new events.now waiters.now) ≡ step (state self.old active.now configured.now used.old counters.old events.now waiters.now) (request rcid mcid at kind bytes) }
     {
         self.request_by(
             active,
@@ -133,7 +118,7 @@ impl Record {
 
     // A device's request, by the IOMMU's mode and the word of its register or of the device context.
     pub fn device_request(
-        mut self,
+        &mut self,
         active: &[u32],
         configured: &[u32],
         used: &mut [u32],
@@ -145,8 +130,8 @@ impl Record {
         at: u64,
         kind: u64,
         bytes: u32,
-    ) -> Served
-        ensures { outcome (granting_of result.granting) (state result.«record» active.now configured.now used.new counters.new events.now waiters.now) ≡ step (state self active.now configured.now used.old counters.old events.now waiters.now) (device_request mode word at kind bytes) }
+    ) -> Result<Grant, Refusal>
+        ensures { outcome (granting_of result) (state self.new active.now configured.now used.new counters.new events.now waiters.now) ≡ step (state self.old active.now configured.now used.old counters.old events.now waiters.now) (device_request mode word at kind bytes) }
     {
         let ids = identifiers_in(mode, word);
         self.request_by(

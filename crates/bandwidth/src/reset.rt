@@ -8,11 +8,11 @@ ghost use Rattle.bandwidth_setup.specs.View.{setup_of};
 ghost use Rattle.bandwidth.specs.View.{state, outcome, ack_of, reset_row};
 ghost use Rattle.bandwidth.specs.Checked.{Fresh};
 
-use crate::{Acked, Record};
-use access::{Ack, Refusal};
+use crate::Record;
+use access::Refusal;
 use bandwidth_setup::Setup;
 use fields::BwAlloc;
-use tables::{copy32, fill16, fill32, fill64, put32};
+use tables::put;
 
 // The Mweight that RCID 0 has after a reset.
 const RESET_WEIGHT: u64 = 1;
@@ -36,8 +36,8 @@ pub fn reset_row(setup: Setup, row: &mut [u32])
         useshared: 1,
     }
     .pack();
-    fill32(row, sharer as u32);
-    put32(row, 0, holder as u32);
+    row.fill(sharer as u32);
+    put(row, 0, holder as u32);
 }
 
 // The settings of a reset.
@@ -46,7 +46,7 @@ fn reset_table(setup: Setup, table: &mut [u32])
     ensures { table.new ≡ reset_table (setup_of setup) }
 {
     let na = setup.na as usize;
-    fill32(table, 0);
+    table.fill(0);
     reset_row(setup, &mut table[..na]);
 }
 
@@ -64,16 +64,30 @@ fn reset_tables(
     ensures { Fresh (setup_of setup) active.new configured.new used.new counters.new events.new waiters.new }
 {
     reset_table(setup, configured);
-    copy32(active, configured);
-    fill32(used, 0);
-    fill64(counters, 0);
-    fill16(events, 0);
-    fill64(waiters, 0);
+    active.copy_from_slice(configured);
+    used.fill(0);
+    counters.fill(0);
+    events.fill(0);
+    waiters.fill(0);
 }
 
 impl Record {
+    // The record after a reset: its registers are 0, and the pool gave nothing.
+    pub fn fresh(setup: Setup) -> Record
+        ensures { result ≡ record { setup = setup; mon_ctl = 0; mon_ctr_val = 0; alloc_ctl = 0; bw_alloc = 0; pool = 0 } }
+    {
+        Record {
+            setup,
+            mon_ctl: 0,
+            mon_ctr_val: 0,
+            alloc_ctl: 0,
+            bw_alloc: 0,
+            pool: 0,
+        }
+    }
+
     pub fn reset(
-        mut self,
+        &mut self,
         active: &mut [u32],
         configured: &mut [u32],
         used: &mut [u32],
@@ -81,34 +95,17 @@ impl Record {
         events: &mut [u16],
         waiters: &mut [u64],
         setup: Setup,
-    ) -> Acked
-        ensures { outcome (ack_of result.ack) (state result.«record» active.new configured.new used.new counters.new events.new waiters.new) ≡ step (state self active.old configured.old used.old counters.old events.old waiters.old) (reset (setup_of setup)) }
+    ) -> Result<(), Refusal>
+        ensures { outcome (ack_of result) (state self.new active.new configured.new used.new counters.new events.new waiters.new) ≡ step (state self.old active.old configured.old used.old counters.old events.old waiters.old) (reset (setup_of setup)) }
     {
-        if setup.in_range() {
-            if self.lengths_ok(setup, active, configured, used, counters, events, waiters) {
-                reset_tables(setup, active, configured, used, counters, events, waiters);
-                Acked {
-                    record: Record {
-                        setup,
-                        mon_ctl: 0,
-                        mon_ctr_val: 0,
-                        alloc_ctl: 0,
-                        bw_alloc: 0,
-                        pool: 0,
-                    },
-                    ack: Ack::Done,
-                }
-            } else {
-                Acked {
-                    record: self,
-                    ack: Ack::Refused(Refusal::Length),
-                }
-            }
-        } else {
-            Acked {
-                record: self,
-                ack: Ack::Refused(Refusal::Setup),
-            }
+        if !setup.in_range() {
+            return Err(Refusal::Setup);
         }
+        if !self.lengths_ok(setup, active, configured, used, counters, events, waiters) {
+            return Err(Refusal::Length);
+        }
+        reset_tables(setup, active, configured, used, counters, events, waiters);
+        *self = Record::fresh(setup);
+        Ok(())
     }
 }

@@ -4,16 +4,15 @@ ghost use Rattle.bandwidth_model.specs.Calls.{wait, need};
 ghost use Rattle.bandwidth_model.specs.Model.{step};
 ghost use Rattle.bandwidth.specs.View.{state, outcome, ack_of, reading_of};
 
-use crate::check::Check;
-use crate::{Acked, Read, Record};
-use access::{Ack, Reading, Refusal, Verdict};
+use crate::Record;
+use access::{Refusal, Verdict};
 use bandwidth_waiters::{need_of, put_word, wait_verdict};
-use tables::{put64, word64};
+use tables::{put, word};
 
 impl Record {
     // Puts a request to wait: nothing is granted before a window ends.
     pub fn wait(
-        self,
+        &self,
         active: &[u32],
         configured: &[u32],
         used: &[u32],
@@ -25,37 +24,24 @@ impl Record {
         at: u64,
         kind: u64,
         bytes: u32,
-    ) -> Acked
-        ensures { outcome (ack_of result.ack) (state result.«record» active.now configured.now used.now counters.now events.now waiters.new) ≡ step (state self active.now configured.now used.now counters.now events.now waiters.old) (wait rcid mcid at kind bytes) }
+    ) -> Result<(), Refusal>
+        ensures { outcome (ack_of result) (state self.now active.now configured.now used.now counters.now events.now waiters.new) ≡ step (state self.now active.now configured.now used.now counters.now events.now waiters.old) (wait rcid mcid at kind bytes) }
     {
-        match self.check(active, configured, used, counters, events, waiters) {
-            Check::Failed(why) => Acked {
-                record: self,
-                ack: Ack::Refused(why),
-            },
-            Check::Passed(_) => {
-                let setup = self.setup;
-                let i = rcid as usize;
-                match wait_verdict(setup, word64(waiters, i), rcid, mcid, bytes) {
-                    Verdict::Failed(why) => Acked {
-                        record: self,
-                        ack: Ack::Refused(why),
-                    },
-                    Verdict::Passed => {
-                        put64(waiters, i, put_word(setup, mcid, at, kind, bytes));
-                        Acked {
-                            record: self,
-                            ack: Ack::Done,
-                        }
-                    }
-                }
+        self.check(active, configured, used, counters, events, waiters)?;
+        let setup = self.setup;
+        let i = rcid as usize;
+        match wait_verdict(setup, word(waiters, i, 0), rcid, mcid, bytes) {
+            Verdict::Failed(why) => Err(why),
+            Verdict::Passed => {
+                put(waiters, i, put_word(setup, mcid, at, kind, bytes));
+                Ok(())
             }
         }
     }
 
     // What the request needs that waits under an RCID, 0 where none does.
     pub fn need(
-        self,
+        &self,
         active: &[u32],
         configured: &[u32],
         used: &[u32],
@@ -63,26 +49,13 @@ impl Record {
         events: &[u16],
         waiters: &[u64],
         rcid: u64,
-    ) -> Read
-        ensures { outcome (reading_of result.reading) (state result.«record» active.now configured.now used.now counters.now events.now waiters.now) ≡ step (state self active.now configured.now used.now counters.now events.now waiters.now) (need rcid) }
+    ) -> Result<u64, Refusal>
+        ensures { outcome (reading_of result) (state self.now active.now configured.now used.now counters.now events.now waiters.now) ≡ step (state self.now active.now configured.now used.now counters.now events.now waiters.now) (need rcid) }
     {
-        match self.check(active, configured, used, counters, events, waiters) {
-            Check::Failed(why) => Read {
-                record: self,
-                reading: Reading::Refused(why),
-            },
-            Check::Passed(_) => {
-                if self.setup.nr <= rcid {
-                    return Read {
-                        record: self,
-                        reading: Reading::Refused(Refusal::Identifier),
-                    };
-                }
-                Read {
-                    record: self,
-                    reading: Reading::Value(need_of(word64(waiters, rcid as usize))),
-                }
-            }
+        self.check(active, configured, used, counters, events, waiters)?;
+        if self.setup.nr <= rcid {
+            return Err(Refusal::Identifier);
         }
+        Ok(need_of(word(waiters, rcid as usize, 0)))
     }
 }

@@ -1,13 +1,15 @@
+use Rattle.std.proofs.lemmas.Result.{err_from_is_err_and}
 use Rattle.bandwidth_model.specs.Calls.{end_window}
-use Rattle.bandwidth.proofs.Checks.{failed_of, passed_of}
 use Rattle.bandwidth.proofs.Calls.{call_failed, end_done}
 use Rattle.bandwidth.proofs.Record.end_window.Goals as goal
 
-pub open_window-after-requires : goal.open_window-after-requires
-open_window-after-requires c = passed_of _ _ _ c.check.ensures c.in-Passed.is
+pub returns-in_err-totals : goal.returns-in_err-totals
+returns-in_err-totals c =
+    let p = err_from_is_err_and c.from_residual.result c.from_residual.ensures.1 in
+    rw (p.1, p.2) (call_failed _ end_window tt _ c.in_err-totals.ensures)
 
-pub returns-in-Failed : goal.returns-in-Failed
-returns-in-Failed c = call_failed _ end_window tt c.in-Failed.why (failed_of _ _ _ c.check.ensures c.in-Failed.is)
+pub open_window-requires : goal.open_window-requires
+open_window-requires c = c.in_ok-totals.ensures
 
-pub returns-in-Passed : goal.returns-in-Passed
-returns-in-Passed c = end_done (passed_of _ _ _ c.check.ensures c.in-Passed.is) _ c.open_window-after.ensures
+pub returns : goal.returns
+returns c = end_done c.in_ok-totals.ensures _ c.open_window.ensures

@@ -7,8 +7,8 @@ use Rattle.bandwidth.proofs.Windows.{window_opens, window_size, window_served}
 use Rattle.bandwidth.proofs.Record.open_window.Goals as goal
 
 -- the tables of settings are of one length
-pub copy32-requires : goal.copy32-requires
-copy32-requires c =
+pub copy_from_slice-requires : goal.copy_from_slice-requires
+copy_from_slice-requires c =
     let z = c.requires.sized in
     cc (z.active_long, z.configured_long)
 
@@ -20,13 +20,13 @@ overflow_mul-size c =
 pub weights_of-weights-requires : goal.weights_of-weights-requires
 weights_of-weights-requires c = window_opens c.requires
 
-pub serve_all-requires : goal.serve_all-requires
-serve_all-requires c =
+pub serve_all-self-requires : goal.serve_all-self-requires
+serve_all-self-requires c =
     let p = c.requires in
-    (window_opens p, (c.fill32.ensures ∙ ap (λ (n : ℕ). replicate n 0) p.sized.used_long, (window_size p c.saturating_sub.ensures, c.weights_of-weights.ensures)))
+    (window_opens p, (c.fill.ensures.after (λ _ e. e) ∙ ap (λ (n : ℕ). replicate n 0) p.sized.used_long, (window_size p c.saturating_sub.ensures, c.weights_of-weights.ensures)))
 
 pub returns : goal.returns
 returns c =
     let p = c.requires in
-    window_served p c.copy32.ensures (c.fill32.ensures ∙ ap (λ (n : ℕ). replicate n 0) p.sized.used_long)
-    (window_size p c.saturating_sub.ensures) c.weights_of-weights.ensures c.serve_all.ensures
+    window_served p c.copy_from_slice.ensures.after (c.fill.ensures.after (λ _ e. e) ∙ ap (λ (n : ℕ). replicate n 0) p.sized.used_long)
+    (window_size p c.saturating_sub.ensures) c.weights_of-weights.ensures c.serve_all-self.ensures

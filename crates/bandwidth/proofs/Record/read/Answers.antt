@@ -1,13 +1,15 @@
+use Rattle.std.proofs.lemmas.Result.{err_from_is_err_and}
 use Rattle.bandwidth_model.specs.Calls.{read}
-use Rattle.bandwidth.proofs.Checks.{failed_of, passed_of}
 use Rattle.bandwidth.proofs.Calls.{call_failed}
 use Rattle.bandwidth.proofs.Record.read.Goals as goal
 
-pub reading-reading-requires : goal.reading-reading-requires
-reading-reading-requires c = (passed_of _ _ _ c.check.ensures c.in-Passed.is).ranges
+pub returns-in_err-check : goal.returns-in_err-check
+returns-in_err-check c =
+    let p = err_from_is_err_and c.from_residual.result c.from_residual.ensures.1 in
+    rw (p.1, p.2) (call_failed _ (read _ _) tt _ c.in_err-check.ensures)
 
-pub returns-in-Failed : goal.returns-in-Failed
-returns-in-Failed c = call_failed _ (read _ _) tt c.in-Failed.why (failed_of _ _ _ c.check.ensures c.in-Failed.is)
+pub reading-requires : goal.reading-requires
+reading-requires c = c.in_ok-check.ensures.ranges
 
-pub returns-in-Passed : goal.returns-in-Passed
-returns-in-Passed c = c.reading-reading.ensures _ _ _ _ _ _ _ (passed_of _ _ _ c.check.ensures c.in-Passed.is)
+pub returns : goal.returns
+returns c = c.reading.ensures _ _ _ _ _ _ _ c.in_ok-check.ensures

@@ -6,11 +6,11 @@ use Rattle.bandwidth.proofs.Record.serve.Goals as goal
 
 pub slice_bounds-give-end : goal.slice_bounds-give-end
 slice_bounds-give-end c =
-    omega (arith, row_end (setup_of c.args.self.setup) c.args.active.now c.requires.0.sized.active_long c.row_at-place.ensures)
+    omega (arith, row_end (setup_of c.args.self.now.setup) c.args.active.now c.requires.0.sized.active_long c.row_at-place.ensures)
 
 pub slice_bounds-give-end-2 : goal.slice_bounds-give-end-2
 slice_bounds-give-end-2 c =
-    omega (arith, row_end (setup_of c.args.self.setup) c.args.used.now c.requires.0.sized.used_long c.row_at-place.ensures)
+    omega (arith, row_end (setup_of c.args.self.now.setup) c.args.used.now c.requires.0.sized.used_long c.row_at-place.ensures)
 
 pub give-given-requires : goal.give-given-requires
 give-given-requires c =

@@ -5,7 +5,7 @@ pub returns-in-24 : goal.returns-in-24
 returns-in-24 c = write_alloc_at _ _ _ _ c.in-24.is c.write_alloc-done.ensures
 
 pub returns-in-32 : goal.returns-in-32
-returns-in-32 c = write_bw_at _ _ _ _ c.in-32.is c.bw_word.ensures.is
+returns-in-32 c = write_bw_at _ _ _ _ c.in-32.is c.bw_word-self.ensures.is
 
 pub returns-in-8 : goal.returns-in-8
 returns-in-8 c =

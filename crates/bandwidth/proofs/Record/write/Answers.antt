@@ -1,22 +1,21 @@
-use mathlib.Core.Path.{sym, ap, ◌∙◌}
-use Rattle.access.specs.View.{verdict_of}
+use Rattle.std.proofs.lemmas.Result.{err_from_is_err_and}
 use Rattle.bandwidth_model.specs.Calls.{write}
-use Rattle.bandwidth.proofs.Checks.{failed_of, passed_of}
 use Rattle.bandwidth.proofs.Calls.{call_failed, write_refused, write_done}
 use Rattle.bandwidth.proofs.Record.write.Goals as goal
 
-pub store-after-requires : goal.store-after-requires
-store-after-requires c = passed_of _ _ _ c.check.ensures c.in-Passed.is
+pub returns-in_err-totals : goal.returns-in_err-totals
+returns-in_err-totals c =
+    let p = err_from_is_err_and c.from_residual.result c.from_residual.ensures.1 in
+    rw (p.1, p.2) (call_failed _ (write _ _ _) tt _ c.in_err-totals.ensures)
 
-pub returns-in-Failed : goal.returns-in-Failed
-returns-in-Failed c = call_failed _ (write _ _ _) tt c.in-Failed.why (failed_of _ _ _ c.check.ensures c.in-Failed.is)
+pub returns-in_err-check_write : goal.returns-in_err-check_write
+returns-in_err-check_write c =
+    let r = c.from_residual-in_err-check_write in
+    let p = err_from_is_err_and r.result r.ensures.1 in
+    rw (p.1, p.2) (write_refused c.in_ok-totals.ensures _ _ _ _ c.in_err-check_write.ensures)
 
-pub returns-in-Failed-write_verdict : goal.returns-in-Failed-write_verdict
-returns-in-Failed-write_verdict c =
-    write_refused (passed_of _ _ _ c.check.ensures c.in-Passed.is) _ _ _ c.in-Failed-write_verdict.why
-    (sym (ap verdict_of c.in-Failed-write_verdict.is) ∙ c.write_verdict.ensures)
+pub store-requires : goal.store-requires
+store-requires c = c.in_ok-totals.ensures
 
-pub returns-in-Passed-write_verdict : goal.returns-in-Passed-write_verdict
-returns-in-Passed-write_verdict c =
-    write_done (passed_of _ _ _ c.check.ensures c.in-Passed.is) _ _ _ _
-    (sym (ap verdict_of c.in-Passed-write_verdict.is) ∙ c.write_verdict.ensures) c.store-after.ensures
+pub returns : goal.returns
+returns c = write_done c.in_ok-totals.ensures _ _ _ _ c.in_ok-check_write.ensures c.store.ensures

@@ -6,5 +6,5 @@ use Rattle.bandwidth.proofs.reset.reset_row.Goals as goal
 pub returns : goal.returns
 unfolding reset_row holder_word sharer_word
 returns c =
-    c.put32.ensures
-    ∙ rw (c.fill32.ensures, c.pack-sharer.ensures, c.pack-holder.ensures) refl
+    c.put.ensures
+    ∙ rw (c.fill.ensures.after (λ _ e. e), c.pack-sharer.ensures, c.pack-holder.ensures) refl

@@ -8,10 +8,10 @@ returns c =
     let sized = c.requires.1 in
     let configured = c.reset_table.ensures in
     record {
-      active_is = c.copy32.ensures ∙ configured;
+      active_is = c.copy_from_slice.ensures.after ∙ configured;
       configured_is = configured;
-      used_is = c.fill32.ensures ∙ ap (λ (n : ℕ). replicate n 0) sized.used_long;
-      counters_are = c.fill64.ensures ∙ ap (λ (n : ℕ). replicate n 0) sized.counters_long;
-      events_are = c.fill16.ensures ∙ ap (λ (n : ℕ). replicate n 0) sized.events_long;
-      waiters_are = c.fill64-2.ensures ∙ ap (λ (n : ℕ). replicate n 0) sized.waiters_long;
+      used_is = c.fill.ensures.after (λ _ e. e) ∙ ap (λ (n : ℕ). replicate n 0) sized.used_long;
+      counters_are = c.fill-2.ensures.after (λ _ e. e) ∙ ap (λ (n : ℕ). replicate n 0) sized.counters_long;
+      events_are = c.fill-3.ensures.after (λ _ e. e) ∙ ap (λ (n : ℕ). replicate n 0) sized.events_long;
+      waiters_are = c.fill-4.ensures.after (λ _ e. e) ∙ ap (λ (n : ℕ). replicate n 0) sized.waiters_long;
     }
