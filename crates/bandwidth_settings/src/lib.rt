@@ -20,7 +20,8 @@ use allocation::{alloc_status, alloc_word, control_ok, effect_of, held_fields};
 use bandwidth_setup::Setup;
 use codes::Resource;
 use fields::BwAlloc;
-use tables::{Row, pick, row_at, store32, word32};
+use std::ops::Range;
+use tables::{Row, pick, row_at, row_of, store};
 
 pub fn is_holder(word: u64) -> bool
     ensures { result ≡ is_holder word }
@@ -87,10 +88,8 @@ fn carry_weight(row: &mut [u32], weight: u64)
     requires { weight < 256 }
     ensures { row.new ≡ map (with_weight weight) row.old }
 {
-    let mut i: usize = 0;
-    while i < row.len() {
-        row[i] = with_weight(weight, row[i] as u64) as u32;
-        i += 1;
+    for w in row.iter_mut() {
+        *w = with_weight(weight, u64::from(*w)) as u32;
     }
 }
 
@@ -100,7 +99,7 @@ fn settle_row(made: bool, row: &mut [u32], at: usize, word: u64)
     ensures { row.new ≡ cond made (settled_row row.old at word) row.old }
 {
     let f = BwAlloc::unpack(word);
-    store32(made, row, at, word as u32);
+    store(made, row, at, word as u32);
     if made & is_holder(word) {
         carry_weight(row, f.mweight);
     }
@@ -127,7 +126,15 @@ pub struct Written {
     pub bw: u64,
 }
 
-// Where the words of the RCID that v names stand; none where there is no such RCID.
+// Where the words of the RCID that v names stand; nowhere where there is no such RCID.
+pub fn row_named(setup: Setup, v: u64) -> Range<usize>
+    requires { Ranges (setup_of setup) }
+    ensures { RowAt setup.nr setup.na (rcid_of v) result.start result.end }
+{
+    row_of(setup.nr, setup.na, held_fields(setup.na, v).rcid)
+}
+
+// The same as a row.
 pub fn named_row(setup: Setup, v: u64) -> Row
     requires { Ranges (setup_of setup) }
     ensures { RowAt setup.nr setup.na (rcid_of v) result.from result.to }
@@ -144,7 +151,7 @@ pub fn write_row(setup: Setup, row: &mut [u32], reserved: u64, bw: u64, v: u64) 
     let bad = bad_operand(setup, row, reserved, f.at, bw);
     let status = alloc_status(Resource::Bandwidth, setup.nr, setup.na, bad, v);
     let at = f.at as usize;
-    let old = word32(row, at) as u64;
+    let old = u64::from(tables::word(row, at, 0));
     let effect = effect_of(Resource::Bandwidth, f.op, status);
     settle_row(effect.sets, row, at, stored_word(bw));
     Written {
@@ -158,8 +165,6 @@ pub fn write_alloc(setup: Setup, configured: &mut [u32], reserved: u64, bw: u64,
     requires { Ready (setup_of setup) configured.old reserved }
     ensures { allocation result.ctl result.bw configured.new ≡ write_alloc (setup_of setup) bw configured.old v }
 {
-    let place = named_row(setup, v);
-    let from = place.from;
-    let to = place.to;
-    write_row(setup, &mut configured[from..to], reserved, bw, v)
+    let row = row_named(setup, v);
+    write_row(setup, &mut configured[row], reserved, bw, v)
 }

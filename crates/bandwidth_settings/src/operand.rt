@@ -7,7 +7,6 @@ ghost use Rattle.bandwidth_settings.specs.Rows.{bad_holder_in, shares_in, bad_sh
 use crate::{is_holder, is_sharer, reserved_blocks};
 use bandwidth_setup::Setup;
 use fields::BwAlloc;
-use tables::{saturating_sub, word32};
 
 // Whether a holder's word has no blocks, or more than MRBWB with those of every other holder.
 fn bad_holder(setup: Setup, row: &[u32], reserved: u64, at: u64, word: u64) -> bool
@@ -15,15 +14,15 @@ fn bad_holder(setup: Setup, row: &[u32], reserved: u64, at: u64, word: u64) -> b
     ensures { result ≡ bad_holder_in (setup_of setup) reserved row.now at word }
 {
     let f = BwAlloc::unpack(word);
-    let replaced = reserved_blocks(word32(row, at as usize) as u64);
-    (f.rbwb == 0) | (setup.mrbwb < f.rbwb + saturating_sub(reserved, replaced))
+    let replaced = reserved_blocks(u64::from(tables::word(row, at as usize, 0)));
+    (f.rbwb == 0) | (setup.mrbwb < f.rbwb + reserved.saturating_sub(replaced))
 }
 
 // Whether AT b is another than at, and shares it.
 fn shares_at(row: &[u32], at: u64, b: u64) -> bool
     ensures { result ≡ shares_in row.now at b }
 {
-    let word = word32(row, b as usize) as u64;
+    let word = u64::from(tables::word(row, b as usize, 0));
     let f = BwAlloc::unpack(word);
     (b != at) & is_sharer(word) & (f.sharedat == at)
 }
@@ -33,10 +32,8 @@ fn is_shared(na: u64, row: &[u32], at: u64) -> bool
     ensures { result ≡ any_below na (shares_in row.now at) }
 {
     let mut found = false;
-    let mut b: u64 = 0;
-    while b < na {
-        found = found | shares_at(row, at, b);
-        b += 1;
+    for b in 0..na {
+        found |= shares_at(row, at, b);
     }
     found
 }
@@ -46,7 +43,7 @@ fn bad_sharer(setup: Setup, row: &[u32], at: u64, word: u64) -> bool
     ensures { result ≡ bad_sharer_in (setup_of setup) row.now at word }
 {
     let f = BwAlloc::unpack(word);
-    let holder = is_holder(word32(row, f.sharedat as usize) as u64);
+    let holder = is_holder(u64::from(tables::word(row, f.sharedat as usize, 0)));
     (f.sharedat == at) | (setup.na <= f.sharedat) | !holder | is_shared(setup.na, row, at)
 }
 

@@ -2,6 +2,21 @@
 ghost use Rattle.std.specs.Prelude.{◌≤◌};
 ghost use Rattle.tables.specs.Parts.{RowAt};
 
+use std::ops::Range;
+
+// Where they stand; nowhere where there is no such RCID.
+pub fn row_of(nr: u64, na: u64, rcid: u64) -> Range<usize>
+    requires { (nr ≤ 256) × (na ≤ 8) }
+    ensures { RowAt nr na rcid result.start result.end }
+{
+    if rcid < nr {
+        let from = (rcid * na) as usize;
+        from..from + na as usize
+    } else {
+        0..0
+    }
+}
+
 // Where they begin and end.
 #[derive(Clone, Copy)]
 pub struct Row {

@@ -29,10 +29,10 @@ pub returns-then-made-is_holder : goal.returns-then-made-is_holder
 returns-then-made-is_holder c =
     let s = c.before in
     carries s.args.row.now _ _ s.args.at s.args.word _ s.args.made _ c.unpack-f.ensures.is
-    c.store32.ensures c.is_holder.ensures
+    c.store.ensures c.is_holder.ensures
     c.if-made-is_holder.true c.carry_weight.ensures
 
 pub returns-else-made-is_holder : goal.returns-else-made-is_holder
 returns-else-made-is_holder c =
     let s = c.before in
-    stays s.args.row.now _ s.args.at s.args.word s.args.made _ c.store32.ensures c.is_holder.ensures c.if-made-is_holder.false
+    stays s.args.row.now _ s.args.at s.args.word s.args.made _ c.store.ensures c.is_holder.ensures c.if-made-is_holder.false

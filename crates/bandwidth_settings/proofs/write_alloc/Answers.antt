@@ -6,7 +6,7 @@ use Rattle.bandwidth_settings.proofs.write_alloc.Goals as goal
 pub slice_bounds-write_row-end : goal.slice_bounds-write_row-end
 slice_bounds-write_row-end c =
     let a = c.before in
-    omega (arith, row_end (setup_of a.args.setup) a.args.configured.now a.requires.long c.named_row-place.ensures)
+    omega (arith, row_end (setup_of a.args.setup) a.args.configured.now a.requires.long c.row_named-row.ensures)
 
 pub write_row-requires : goal.write_row-requires
 write_row-requires c = row_reserves c.requires
@@ -14,4 +14,4 @@ write_row-requires c = row_reserves c.requires
 pub returns : goal.returns
 returns c =
     let n = c.before in
-    row_write n.requires _ _ n.named_row-place.ensures c.write_row.ensures
+    row_write n.requires _ _ n.row_named-row.ensures c.write_row.ensures

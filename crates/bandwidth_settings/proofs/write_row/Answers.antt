@@ -1,4 +1,4 @@
-use mathlib.Core.Path.{◌≡◌}
+use mathlib.Core.Path.{◌≡◌, ◌∙◌}
 use mathlib.Core.Bool.{Bool, cond}
 use mathlib.Core.List.{List, [], ◌∷◌}
 use Prim.Native.Nat.{ℕ}
@@ -29,4 +29,4 @@ returns c =
     let e = s.before in
     let t = e.before in
     steps _ _ _ _ _ _ _ _ _ _ _ _ _ _ t.held_fields-f.ensures t.bad_operand-bad.ensures t.alloc_status-status.ensures.is e.effect_of-effect.ensures
-    e.word32-old.ensures s.stored_word.ensures.is c.settle_row.ensures c.alloc_word.ensures c.pick.ensures
+    (e.from-old.ensures ∙ e.word.ensures) s.stored_word.ensures.is c.settle_row.ensures c.alloc_word.ensures c.pick.ensures

@@ -1,8 +1,7 @@
-use mathlib.Core.Path.{◌≡◌}
+use mathlib.Core.Path.{◌≡◌, ◌∙◌}
 use mathlib.Core.Bool.{◌||◌}
 use mathlib.Core.List.{List}
 use Prim.Native.Nat.{ℕ, ◌+◌, ◌-◌}
-use native.Mathlib.Omega.{arith}
 use lib.Dec.{ltb, eqb}
 use lib.ListN.{get_or}
 use Rattle.fields.specs.Layout.{unpack}
@@ -20,13 +19,8 @@ steps : (su : Setup) (sum : ℕ) (row : List ℕ) (at word w replaced left : ℕ
 unfolding bad_holder_in rbwb_of
 steps su sum row at word w replaced left f e g h k = cc
 
-pub overflow_add-result : goal.overflow_add-result
-overflow_add-result c =
-    let u = c.before in
-    record { fits = omega (arith, u.requires.small, u.unpack-f.ensures.fits.1.1.1.0) }
-
 pub returns : goal.returns
 returns c =
     let b = c.before in
     let u = b.before in
-    steps _ _ _ _ _ _ _ _ _ u.unpack-f.ensures.is b.word32.ensures b.reserved_blocks-replaced.ensures.is c.saturating_sub.ensures
+    steps _ _ _ _ _ _ _ _ _ u.unpack-f.ensures.is (b.from.ensures ∙ b.word.ensures) b.reserved_blocks-replaced.ensures.is c.saturating_sub.ensures

@@ -1,4 +1,4 @@
-use mathlib.Core.Path.{◌≡◌}
+use mathlib.Core.Path.{◌≡◌, ◌∙◌}
 use mathlib.Core.Bool.{Bool, not, ◌||◌}
 use mathlib.Core.List.{List}
 use Prim.Native.Nat.{ℕ}
@@ -23,4 +23,4 @@ steps su row at word w f holder shared e g h k = cc
 pub returns : goal.returns
 returns c =
     let h = c.before in
-    steps _ _ _ _ _ _ _ _ h.unpack-f.ensures.is h.word32.ensures h.is_holder-holder.ensures c.is_shared.ensures
+    steps _ _ _ _ _ _ _ _ h.unpack-f.ensures.is (h.from.ensures ∙ h.word.ensures) h.is_holder-holder.ensures c.is_shared.ensures
