@@ -153,10 +153,10 @@ pub fn write_row(setup: Setup, row: &mut [u32], reserved: u64, bw: u64, v: u64) 
     let at = f.at as usize;
     let old = u64::from(tables::word(row, at, 0));
     let effect = effect_of(Resource::Bandwidth, f.op, status);
-    settle_row(effect.sets, row, at, stored_word(bw));
+    settle_row(effect.sets(), row, at, stored_word(bw));
     Written {
         ctl: alloc_word(f, status),
-        bw: pick(effect.reads, old, bw),
+        bw: pick(effect.reads(), old, bw),
     }
 }
 

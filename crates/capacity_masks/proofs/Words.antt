@@ -19,7 +19,7 @@ use Rattle.fields.specs.declared.AllocCtl.{AllocCtl}
 use Rattle.access.specs.Pairs.{word_at}
 use Rattle.access.proofs.Pairs.{rows}
 use Rattle.allocation.specs.Allocation as allocation
-use Rattle.allocation.specs.View.{AllocFields, EffectOf}
+use Rattle.allocation.specs.View.{AllocFields, sets, reads, flushes, EffectOf}
 use Rattle.allocation.specs.declared.Effect.{Effect}
 use Rattle.codes.specs.declared.Resource.TheVariants.{Capacity}
 use Rattle.monitor.proofs.Steps.{put_back}
@@ -55,8 +55,8 @@ masks_test su n f =
 -- the operation of alloc_ctl, from what each step gives of the mask of the pair that it names
 module _ (su : Setup) (v operand mask st : ℕ) (effect : Effect) (f : AllocCtl) (x : AllocWords) (g : AllocFields su.na v f)
     (s : Small (allocation.operation_status Capacity su.nr su.na (eqb operand 0) v) 5 st) (d : EffectOf Capacity f.op st effect) where
-  pub alloc_words : x.ctl ≡ pack alloc_ctl (0 ∷ st ∷ f.rcid ∷ f.at ∷ f.op ∷ []) → x.operand ≡ cond effect.reads mask operand → x.mask ≡ cond effect.sets operand mask
-      → x.flushes ≡ effect.flushes → AllocAfter su operand mask v x
+  pub alloc_words : x.ctl ≡ pack alloc_ctl (0 ∷ st ∷ f.rcid ∷ f.at ∷ f.op ∷ []) → x.operand ≡ cond (reads effect) mask operand → x.mask ≡ cond (sets effect) operand mask
+      → x.flushes ≡ flushes effect → AllocAfter su operand mask v x
   unfolding write_alloc allocation.alloc_word bad_mask allocation.operand_after allocation.table_after allocation.succeeds allocation.performs word_at
   alloc_words c o m k = record {
     words = λ masks e. rw (m, o, d.sets_is, d.reads_is, c, e, s.is, g.op_is, g.at_is, g.rcid_is, put_back) refl;

@@ -95,8 +95,8 @@ pub fn alloc_after(setup: Setup, operand: u64, mask: u64, v: u64) -> AllocWords
     let effect = effect_of(Resource::Capacity, f.op, status);
     AllocWords {
         ctl: alloc_word(f, status),
-        operand: pick(effect.reads, mask, operand),
-        mask: pick(effect.sets, operand, mask),
-        flushes: effect.flushes,
+        operand: pick(effect.reads(), mask, operand),
+        mask: pick(effect.sets(), operand, mask),
+        flushes: effect.flushes(),
     }
 }
