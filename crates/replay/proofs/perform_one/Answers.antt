@@ -14,16 +14,16 @@ pub returns-in-2 : goal.returns-in-2
 returns-in-2 c = replied_by _ _ _ _ _ _ _ _ _ _ _ _ (call_write _ _ _ _ _ _ _ c.in-2.is) c.write.ensures c.reply_ack-in-2.ensures
 
 pub returns-in-3 : goal.returns-in-3
-returns-in-3 c = replied_by _ _ _ _ _ _ _ _ _ _ _ _ (call_request _ _ _ _ _ _ _ c.in-3.is) c.request-served.ensures c.reply_granting.ensures
+returns-in-3 c = replied_by _ _ _ _ _ _ _ _ _ _ _ _ (call_request _ _ _ _ _ _ _ c.in-3.is) c.request.ensures c.reply_granting.ensures
 
 pub returns-in-4 : goal.returns-in-4
 returns-in-4 c = replied_by _ _ _ _ _ _ _ _ _ _ _ _ (call_end_window _ _ _ _ _ _ _ c.in-4.is) c.end_window.ensures c.reply_ack-in-4.ensures
 
 pub returns-in-5 : goal.returns-in-5
-returns-in-5 c = replied_by _ _ _ _ _ _ _ _ _ _ _ _ (call_device _ _ _ _ _ _ _ c.in-5.is) c.device_request-served.ensures c.reply_granting-in-5.ensures
+returns-in-5 c = replied_by _ _ _ _ _ _ _ _ _ _ _ _ (call_device _ _ _ _ _ _ _ c.in-5.is) c.device_request.ensures c.reply_granting-in-5.ensures
 
 pub returns-in-6 : goal.returns-in-6
-returns-in-6 c = replied_by _ _ _ _ _ _ _ _ _ _ _ _ (call_wait _ _ _ _ _ _ _ c.in-6.is) c.wait-acked.ensures c.reply_ack-in-6.ensures
+returns-in-6 c = replied_by _ _ _ _ _ _ _ _ _ _ _ _ (call_wait _ _ _ _ _ _ _ c.in-6.is) c.wait.ensures c.reply_ack-in-6.ensures
 
 pub returns-in-7 : goal.returns-in-7
 returns-in-7 c = replied_by _ _ _ _ _ _ _ _ _ _ _ _ (call_need _ _ _ _ _ _ _ c.in-7.is) c.need.ensures c.reply_reading-in-7.ensures

@@ -1,5 +1,4 @@
 use mathlib.Core.Path.{◌≡◌}
-use Prim.Native.Nat.{◌≤◌, ◌-◌}
 use lib.ListN.{length}
 use Rattle.bandwidth.specs.View.{state}
 use Rattle.replay.specs.Replay.{trace_of}
@@ -8,10 +7,6 @@ use Rattle.replay.proofs.replay.Given as goal
 
 abbrev pub invariant-loop-i : goal.invariant-loop-i
 invariant-loop-i l =
-    (l.i ≤ l.count)
-    × (Left (trace_of l.calls l.lists) l.count (state l.initial.control l.initial.active l.initial.configured l.initial.used l.initial.counters l.initial.events l.initial.waiters) l.initial.answers l.i (state l.control l.active l.configured l.used l.counters l.events l.waiters) l.answers)
+    (Left (trace_of l.calls l.lists) l.count (state l.initial.«record» l.initial.active l.initial.configured l.initial.used l.initial.counters l.initial.events l.initial.waiters) l.initial.answers l.i (state l.«record» l.active l.configured l.used l.counters l.events l.waiters) l.answers)
     × (length l.active ≡ length l.initial.active) × (length l.configured ≡ length l.initial.configured) × (length l.used ≡ length l.initial.used)
     × (length l.counters ≡ length l.initial.counters) × (length l.events ≡ length l.initial.events) × (length l.waiters ≡ length l.initial.waiters) × (length l.answers ≡ length l.initial.answers)
-
-abbrev pub decreases-loop-i : goal.decreases-loop-i
-decreases-loop-i l = l.count - l.i

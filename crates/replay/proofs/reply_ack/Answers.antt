@@ -1,10 +1,7 @@
+use mathlib.Core.Path.{refl}
 use Rattle.replay.specs.Replay.{refusal_of, value_of, pooled_of}
 use Rattle.replay.proofs.reply_ack.Goals as goal
 
-pub returns-in-Done : goal.returns-in-Done
+pub returns-in-Ok : goal.returns-in-Ok
 unfolding refusal_of value_of pooled_of
-returns-in-Done c = record { number = cc; value = cc; pooled = cc; kept = cc }
-
-pub returns-in-Refused : goal.returns-in-Refused
-unfolding refusal_of value_of pooled_of
-returns-in-Refused c = record { number = cc; value = cc; pooled = cc; kept = cc }
+returns-in-Ok c = rw c.in-Ok.is (record { number = refl; value = refl; pooled = refl })
