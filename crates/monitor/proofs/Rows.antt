@@ -4,18 +4,26 @@ use mathlib.Core.Bool.{true, false, not, ◌||◌}
 use Prim.Native.Nat.{ℕ, ◌≤◌, ◌<◌}
 use native.Mathlib.Omega.{arith}
 use lib.Dec.{T}
+use Rattle.std.proofs.Math.Bool.{and-false}
+use Rattle.std.proofs.lemmas.Bool.{ne_eqb}
 use Rattle.tables.proofs.Tests.{or_l, or_r, is_true, not_both}
-use Rattle.codes.specs.Codes.{◌has◌, ◌to◌, no_event, bandwidth_events, capacity_events}
+use Rattle.tables.specs.Below.{between}
+use Rattle.codes.specs.Codes.{◌has◌, ◌to◌, no_event, mon_ops, bandwidth_events, capacity_events}
 use Rattle.codes.specs.declared.Resource.{Resource}
 use Rattle.codes.specs.declared.Resource.TheVariants.{Bandwidth, Capacity}
+use Rattle.codes.specs.declared.MonOp.{MonOp}
+use Rattle.codes.specs.declared.MonOp.TheVariants as row
 use Rattle.codes.specs.declared.BandwidthEvent.{BandwidthEvent}
 use Rattle.codes.specs.declared.BandwidthEvent.TheVariants as bandwidth
 use Rattle.codes.specs.declared.CapacityEvent.{CapacityEvent}
 use Rattle.codes.specs.declared.CapacityEvent.TheVariants as capacity
-use Rattle.codes.proofs.Rows.{first_le, single_above}
+use Rattle.codes.proofs.Rows.{first_le, single_above, code_of, reserved_op, custom_op}
 use Rattle.codes.proofs.Tables.{bandwidth_in_one, capacity_in_one}
 use Rattle.monitor.specs.Monitor.{counts_event, unknown_event}
 use Rattle.monitor.specs.Bytes.{counts_kind}
+use Rattle.monitor.specs.View.{EffectOf}
+use Rattle.monitor.specs.declared.status.Effect.{Effect}
+use Rattle.monitor.specs.declared.status.Effect.TheVariants.{Nothing, Configures, Reads}
 
 -- ---- the reserved and the custom row
 
@@ -73,3 +81,28 @@ module _ (event : ℕ) (some : T (not (no_event has event))) where
 pub known_counts : (resource : Resource) (event : ℕ) → event < 256 → T (not (unknown_event resource event)) → T (not (no_event has event)) → T (counts_event resource event)
 known_counts Bandwidth event h known some = let one = bandwidth_in_one.each event h in counts_bytes event some known one.row one.stands
 known_counts Capacity event h known some = let one = capacity_in_one.each event h in counts_capacity event some known one.row one.stands
+
+-- ---- what an operation does, by the row of OP
+
+-- the effect of a row
+abbrev pub row_effect : MonOp → Effect
+row_effect row.ReservedZero = Nothing
+row_effect row.ConfigEvent = Configures
+row_effect row.ReadCounter = Reads
+row_effect row.Reserved = Nothing
+row_effect row.Custom = Nothing
+
+-- where it ended with STATUS 1
+pub effect_by : (op status : ℕ) → status ≡ 1 → (r : MonOp) → T (mon_ops r has op) → EffectOf op status (row_effect r)
+unfolding mon_ops ◌has◌ between
+effect_by op status e row.ReservedZero t = let o = code_of 0 op t in record { configures_is = rw o refl; reads_is = rw o refl }
+effect_by op status e row.ConfigEvent t = let o = code_of 1 op t in record { configures_is = rw (o, e) refl; reads_is = rw o refl }
+effect_by op status e row.ReadCounter t = let o = code_of 2 op t in record { configures_is = rw o refl; reads_is = rw (o, e) refl }
+effect_by op status e row.Reserved t = let o = reserved_op op t in record { configures_is = rw o.not1 refl; reads_is = rw o.not2 refl }
+effect_by op status e row.Custom t = let o = custom_op op t in record { configures_is = rw o.not1 refl; reads_is = rw o.not2 refl }
+
+-- and where it did not
+pub no_effect : (op status : ℕ) → (status ≡ 1 → ⊥) → EffectOf op status Nothing
+no_effect op status f =
+    let e = ne_eqb status 1 f in
+    record { configures_is = rw (e, and-false (mon_ops row.ConfigEvent has op)) refl; reads_is = rw (e, and-false (mon_ops row.ReadCounter has op)) refl }

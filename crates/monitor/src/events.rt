@@ -1,7 +1,6 @@
 // EVT_ID by the rows of each controller's table: what a counter counts.
 ghost use Rattle.std.specs.Prelude.{◌≡◌, ◌<◌};
 ghost use Rattle.codes.specs.Codes.{◌has◌, no_event};
-ghost use Rattle.codes.specs.declared.Resource.TheVariants.{Bandwidth, Capacity};
 ghost use Rattle.monitor.specs.Monitor.{counts_event};
 ghost use Rattle.monitor.specs.Bytes.{counts_kind};
 
@@ -25,26 +24,12 @@ pub fn stops(event: u64) -> bool
     event == NONE
 }
 
-// Whether the bandwidth controller counts an event: all bytes, bytes read or bytes written. Check 3 asks it of every counter setting, so it has no branches.
-fn bandwidth_counts(event: u64) -> bool
-    ensures { result ≡ counts_event Bandwidth event }
-{
-    (event == TOTAL_READ_WRITE) | (event == TOTAL_READ) | (event == TOTAL_WRITE)
-}
-
-// Whether the capacity controller counts an event: occupancy.
-pub fn capacity_counts(event: u64) -> bool
-    ensures { result ≡ counts_event Capacity event }
-{
-    event == OCCUPANCY
-}
-
-// Whether a controller counts an event.
+// Whether a controller counts an event: all bytes, bytes read or bytes written; occupancy. Check 3 asks it of every counter setting, so it has no branches.
 pub fn counts_event(resource: Resource, event: u64) -> bool
     ensures { result ≡ counts_event resource event }
 {
-    let bandwidth = bandwidth_counts(event);
-    let capacity = capacity_counts(event);
+    let bandwidth = (event == TOTAL_READ_WRITE) | (event == TOTAL_READ) | (event == TOTAL_WRITE);
+    let capacity = event == OCCUPANCY;
     match resource {
         Resource::Bandwidth => bandwidth,
         Resource::Capacity => capacity,

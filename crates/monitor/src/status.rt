@@ -6,10 +6,12 @@ ghost use Rattle.codes.specs.Codes.{◌has◌, mon_ops};
 ghost use Rattle.codes.specs.declared.Resource.TheVariants as resource;
 ghost use Rattle.codes.specs.declared.MonOp.TheVariants as row;
 ghost use Rattle.monitor.specs.Monitor.{invalid_op, unknown_event, mon_status};
-ghost use Rattle.monitor.specs.View.{EffectOf};
+ghost use Rattle.monitor.specs.View.{configures, reads, EffectOf};
 
 use crate::unpack_held;
-use codes::{BandwidthEvent, CapacityEvent, MonOp, bandwidth_event, capacity_event, mon_op};
+use codes::{
+    BandwidthEvent, CapacityEvent, MonOp, Resource, bandwidth_event, capacity_event, mon_op,
+};
 use fields::MonCtl;
 use tables::pick;
 
@@ -20,36 +22,31 @@ fn at_status(na: u64, ctl: MonCtl) -> u64
     pick((ctl.atv == 1) & (na <= ctl.at), 5, 1)
 }
 
-// The STATUS of CONFIG_EVENT by EVT_ID in the bandwidth controller, `otherwise` where it is known.
-fn bandwidth_event_status(event: u64, otherwise: u64) -> u64
+// The STATUS of CONFIG_EVENT by EVT_ID, `otherwise` where the controller knows the event.
+fn event_status(resource: Resource, event: u64, otherwise: u64) -> u64
     requires { event < 256 }
-    ensures { result ≡ first ((unknown_event resource.Bandwidth event gives 4) ∷ []) otherwise }
+    ensures { result ≡ first ((unknown_event resource event gives 4) ∷ []) otherwise }
 {
-    match bandwidth_event(event) {
-        BandwidthEvent::None => otherwise,
-        BandwidthEvent::TotalReadWrite => otherwise,
-        BandwidthEvent::TotalRead => otherwise,
-        BandwidthEvent::TotalWrite => otherwise,
-        BandwidthEvent::Reserved => 4,
-        BandwidthEvent::Custom => 4,
-    }
-}
-
-// The same in the capacity controller.
-fn capacity_event_status(event: u64, otherwise: u64) -> u64
-    requires { event < 256 }
-    ensures { result ≡ first ((unknown_event resource.Capacity event gives 4) ∷ []) otherwise }
-{
-    match capacity_event(event) {
-        CapacityEvent::None => otherwise,
-        CapacityEvent::Occupancy => otherwise,
-        CapacityEvent::Reserved => 4,
-        CapacityEvent::Custom => 4,
+    match resource {
+        Resource::Bandwidth => match bandwidth_event(event) {
+            BandwidthEvent::None => otherwise,
+            BandwidthEvent::TotalReadWrite => otherwise,
+            BandwidthEvent::TotalRead => otherwise,
+            BandwidthEvent::TotalWrite => otherwise,
+            BandwidthEvent::Reserved => 4,
+            BandwidthEvent::Custom => 4,
+        },
+        Resource::Capacity => match capacity_event(event) {
+            CapacityEvent::None => otherwise,
+            CapacityEvent::Occupancy => otherwise,
+            CapacityEvent::Reserved => 4,
+            CapacityEvent::Custom => 4,
+        },
     }
 }
 
 // The STATUS by OP and MCID; `event` is the one by EVT_ID, ATV and AT, which count for CONFIG_EVENT alone.
-fn mon_status(nm: u64, ctl: MonCtl, event: u64) -> u64
+fn op_status(nm: u64, ctl: MonCtl, event: u64) -> u64
     requires { ctl.op < 32 }
     ensures { result ≡ first ((invalid_op ctl.op gives 2) ∷ (leb nm ctl.mcid gives 3) ∷ []) (cond (mon_ops row.ConfigEvent has ctl.op) event 1) }
 {
@@ -63,35 +60,50 @@ fn mon_status(nm: u64, ctl: MonCtl, event: u64) -> u64
     }
 }
 
-// The STATUS of a value written to mon_ctl of the bandwidth controller.
+// The STATUS of a value written to mon_ctl.
+pub fn mon_status(resource: Resource, na: u64, nm: u64, v: u64) -> u64
+    ensures { Small (mon_status na nm resource v) 5 result }
+{
+    let ctl = unpack_held(na, v);
+    op_status(
+        nm,
+        ctl,
+        event_status(resource, ctl.evtid, at_status(na, ctl)),
+    )
+}
+
 pub fn bandwidth_status(na: u64, nm: u64, v: u64) -> u64
     ensures { Small (mon_status na nm resource.Bandwidth v) 5 result }
 {
-    let ctl = unpack_held(na, v);
-    mon_status(
-        nm,
-        ctl,
-        bandwidth_event_status(ctl.evtid, at_status(na, ctl)),
-    )
+    mon_status(Resource::Bandwidth, na, nm, v)
 }
 
-// The STATUS of a value written to mon_ctl of the capacity controller.
 pub fn capacity_status(na: u64, nm: u64, v: u64) -> u64
     ensures { Small (mon_status na nm resource.Capacity v) 5 result }
 {
-    let ctl = unpack_held(na, v);
-    mon_status(
-        nm,
-        ctl,
-        capacity_event_status(ctl.evtid, at_status(na, ctl)),
-    )
+    mon_status(Resource::Capacity, na, nm, v)
 }
 
-// What an operation does: configure a counter, read one, or neither.
-#[derive(Drop)]
-pub struct Effect {
-    pub configures: bool,
-    pub reads: bool,
+// What an operation does: nothing, configure a counter, or read one.
+#[derive(Clone, Copy)]
+pub enum Effect {
+    Nothing,
+    Configures,
+    Reads,
+}
+
+impl Effect {
+    pub fn configures(self) -> bool
+        ensures { result ≡ configures self }
+    {
+        matches!(self, Effect::Configures)
+    }
+
+    pub fn reads(self) -> bool
+        ensures { result ≡ reads self }
+    {
+        matches!(self, Effect::Reads)
+    }
 }
 
 // What the operation of this OP does, where it ended with this STATUS.
@@ -100,21 +112,15 @@ pub fn effect_of(op: u64, status: u64) -> Effect
     ensures { EffectOf op status result }
 {
     let done = status == 1;
-    let nothing = Effect {
-        configures: false,
-        reads: false,
-    };
-    match mon_op(op) {
-        MonOp::ReservedZero => nothing,
-        MonOp::ConfigEvent => Effect {
-            configures: done,
-            reads: false,
-        },
-        MonOp::ReadCounter => Effect {
-            configures: false,
-            reads: done,
-        },
-        MonOp::Reserved => nothing,
-        MonOp::Custom => nothing,
+    if done {
+        match mon_op(op) {
+            MonOp::ReservedZero => Effect::Nothing,
+            MonOp::ConfigEvent => Effect::Configures,
+            MonOp::ReadCounter => Effect::Reads,
+            MonOp::Reserved => Effect::Nothing,
+            MonOp::Custom => Effect::Nothing,
+        }
+    } else {
+        Effect::Nothing
     }
 }

@@ -6,5 +6,5 @@ pub returns : goal.returns
 returns c =
     let left = c.before in
     let a = left.args in
-    wrote _ _ _ _ _ _ (monitor_of a.registers a.counters.now a.events.now) _ _ _ left.named_mcid-i.ensures left.word64.ensures
-    left.word16.ensures left.mon_after-left.ensures c.put64.ensures c.put16.ensures
+    wrote _ _ _ _ _ _ (monitor_of a.registers a.counters.now a.events.now) _ _ _ left.named_mcid-i.ensures left.word.ensures
+    left.word-2.ensures left.mon_after-left.ensures c.put.ensures c.put-2.ensures

@@ -8,16 +8,16 @@ use Rattle.tables.proofs.Union.{union_none, union_next}
 use Rattle.monitor.proofs.Forms.{bad_at, events_test}
 use Rattle.monitor.proofs.checks.events_ok.Goals as goal
 
-pub loop-i-init : goal.loop-i-init
-loop-i-init c = (omega arith, sym (union_none _))
+pub loop-s-init : goal.loop-s-init
+loop-s-init c = sym (union_none _)
 
-pub loop-i-preserved : goal.loop-i-preserved
+pub loop-s-preserved : goal.loop-s-preserved
 unfolding bad_at
-loop-i-preserved c = (omega arith, rw union_next (cc))
+loop-s-preserved c = rw union_next (cc)
 
 pub returns : goal.returns
 returns c =
     let a = c.args in
-    let e : c.loop-i.i ≡ length a.t.now = omega arith in
-    ap (λ (x : ℕ). eqb x 0) (c.loop-i.invariant.1 ∙ ap (λ (n : ℕ). union_below n (bad_at a.na a.resource a.t.now)) e)
+    let e : c.loop-s.s-index ≡ length a.t.now = omega arith in
+    ap (λ (x : ℕ). eqb x 0) (c.loop-s.invariant ∙ ap (λ (n : ℕ). union_below n (bad_at a.na a.resource a.t.now)) e)
     ∙ events_test a.na a.resource a.t.now (length a.t.now)

@@ -1,50 +1,21 @@
-use Rattle.std.proofs.Common.{rules}
-use Rattle.tables.specs.Below.{between}
-use Rattle.codes.specs.Codes.{◌has◌, mon_ops}
 use Rattle.codes.specs.declared.MonOp.TheVariants.{ReservedZero, ConfigEvent, ReadCounter, Reserved, Custom}
-use Rattle.codes.proofs.Rows.{code_of, found, reserved_op, custom_op}
+use Rattle.monitor.proofs.Rows.{effect_by, no_effect}
 use Rattle.monitor.proofs.status.effect_of.Goals as goal
 
-pub mon_op-requires : goal.mon_op-requires
-unfolding mon_ops ◌has◌ between
-mon_op-requires c = search rules
-
-pub enum_told-1 : goal.enum_told-1
-unfolding mon_ops ◌has◌ between
-enum_told-1 c = search rules
-
-pub enum_told-in-ConfigEvent : goal.enum_told-in-ConfigEvent
-unfolding mon_ops ◌has◌ between
-enum_told-in-ConfigEvent c = search rules
-
-pub enum_told-in-ReadCounter : goal.enum_told-in-ReadCounter
-unfolding mon_ops ◌has◌ between
-enum_told-in-ReadCounter c = search rules
-
-pub enum_told-in-Reserved : goal.enum_told-in-Reserved
-unfolding mon_ops ◌has◌ between
-enum_told-in-Reserved c = search rules
-
-pub enum_told-in-Custom : goal.enum_told-in-Custom
-unfolding mon_ops ◌has◌ between
-enum_told-in-Custom c = search rules
-
 pub returns-in-ReservedZero : goal.returns-in-ReservedZero
-unfolding mon_ops ◌has◌ between
-returns-in-ReservedZero c = let e = code_of 0 c.args.op (found mon_ops ReservedZero _ c.in-ReservedZero.is c.mon_op.ensures) in record { configures_is = rw e; reads_is = rw e }
+returns-in-ReservedZero c = effect_by _ _ c.if-done.true ReservedZero c.in-ReservedZero.ensures
 
 pub returns-in-ConfigEvent : goal.returns-in-ConfigEvent
-unfolding mon_ops ◌has◌ between
-returns-in-ConfigEvent c = let e = code_of 1 c.args.op (found mon_ops ConfigEvent _ c.in-ConfigEvent.is c.mon_op.ensures) in record { configures_is = rw e; reads_is = rw e }
+returns-in-ConfigEvent c = effect_by _ _ c.if-done.true ConfigEvent c.in-ConfigEvent.ensures
 
 pub returns-in-ReadCounter : goal.returns-in-ReadCounter
-unfolding mon_ops ◌has◌ between
-returns-in-ReadCounter c = let e = code_of 2 c.args.op (found mon_ops ReadCounter _ c.in-ReadCounter.is c.mon_op.ensures) in record { configures_is = rw e; reads_is = rw e }
+returns-in-ReadCounter c = effect_by _ _ c.if-done.true ReadCounter c.in-ReadCounter.ensures
 
 pub returns-in-Reserved : goal.returns-in-Reserved
-unfolding mon_ops ◌has◌ between
-returns-in-Reserved c = let o = reserved_op c.args.op (found mon_ops Reserved _ c.in-Reserved.is c.mon_op.ensures) in record { configures_is = rw o.not1; reads_is = rw o.not2 }
+returns-in-Reserved c = effect_by _ _ c.if-done.true Reserved c.in-Reserved.ensures
 
 pub returns-in-Custom : goal.returns-in-Custom
-unfolding mon_ops ◌has◌ between
-returns-in-Custom c = let o = custom_op c.args.op (found mon_ops Custom _ c.in-Custom.is c.mon_op.ensures) in record { configures_is = rw o.not1; reads_is = rw o.not2 }
+returns-in-Custom c = effect_by _ _ c.if-done.true Custom c.in-Custom.ensures
+
+pub returns-else-done : goal.returns-else-done
+returns-else-done c = no_effect _ _ c.if-done.false

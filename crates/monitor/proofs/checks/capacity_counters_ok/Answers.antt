@@ -1,4 +1,0 @@
-use Rattle.monitor.proofs.checks.capacity_counters_ok.Goals as goal
-
-pub returns : goal.returns
-returns c = c.capacity_union_ok.ensures c.args.t.now (record { is = c.union64.ensures; fits = λ i. (c.type_inv.t i).fits })
