@@ -6,39 +6,35 @@ ghost use Rattle.fields.specs.Registers as reg;
 ghost use Rattle.tables.specs.Below.{all_below};
 ghost use Rattle.tables.specs.Parts.{part};
 ghost use Rattle.words.specs.Words.{bytes_of_all, table_of, Holds};
-ghost use Rattle.monitor.specs.Monitor.{counter_ok, setting_ok, mon_after};
+ghost use Rattle.monitor.specs.Monitor.{counter_fields, counter_ctr, counter_ok, setting_ok, mon_after};
 ghost use Rattle.monitor.specs.Bytes.{counts_request, added};
 ghost use Rattle.monitor.specs.View.{monitor_of};
 ghost use Rattle.monitor_bytes.specs.Monitor.{Stores};
 
 use codes::Resource;
-use monitor::{
-    Registers, bandwidth_union_ok, capacity_union_ok, counted_bytes, mon_after, named_mcid,
-};
-use words::{load_part16, put16, put64, union64, word16, word64};
+use monitor::{Registers, counted_bytes, mon_after, named_mcid, union_ok};
+use words::{load_part, put, union64, word};
 
-// Whether every counter of a bandwidth controller is well formed.
+// Whether every counter is well formed.
+pub fn counters_ok(resource: Resource, t: &[u8], w: u32) -> bool
+    requires { w ≤ 62 }
+    ensures { result ≡ all_below (length (table_of 8 t.now)) (λ i. counter_ok (counter_fields resource) (counter_ctr resource) w (get_or (table_of 8 t.now) i 0)) }
+{
+    union_ok(resource, union64(t), w)
+}
+
 pub fn bandwidth_counters_ok(t: &[u8], w: u32) -> bool
     requires { w ≤ 62 }
     ensures { result ≡ all_below (length (table_of 8 t.now)) (λ i. counter_ok reg.bandwidth_counter reg.bandwidth_ctr w (get_or (table_of 8 t.now) i 0)) }
 {
-    bandwidth_union_ok(union64(t), w)
+    counters_ok(Resource::Bandwidth, t, w)
 }
 
-// The same for a capacity controller.
 pub fn capacity_counters_ok(t: &[u8], w: u32) -> bool
     requires { w ≤ 62 }
     ensures { result ≡ all_below (length (table_of 8 t.now)) (λ i. counter_ok reg.capacity_counter reg.capacity_ctr w (get_or (table_of 8 t.now) i 0)) }
 {
-    capacity_union_ok(union64(t), w)
-}
-
-// How many words a part has that begins at i, before the end of `words` words.
-fn part_length(i: usize, words: usize) -> usize
-    requires { i < words }
-    ensures { (1 ≤ result) × ((result ≤ 64) × (i + result ≤ words)) }
-{
-    if words - i < 64 { words - i } else { 64 }
+    counters_ok(Resource::Capacity, t, w)
 }
 
 // Whether n counter settings from `from` on are well formed.
@@ -47,7 +43,7 @@ fn part_ok(t: &[u8], from: usize, n: usize, na: u16, resource: Resource) -> bool
     ensures { result ≡ all_below n (λ i. setting_ok na resource (get_or (part from n (table_of 2 t.now)) i 0)) }
 {
     let mut settings = [0u16; 64];
-    load_part16(t, from, &mut settings[..n]);
+    load_part(t, from, &mut settings[..n]);
     monitor::events_ok(&settings[..n], na, resource)
 }
 
@@ -60,9 +56,9 @@ pub fn events_ok(t: &[u8], na: u16, resource: Resource) -> bool
     let mut ok = true;
     let mut i = 0usize;
     while i < words {
-        let n = part_length(i, words);
-        ok = ok & part_ok(t, i, n, na, resource);
-        i = i + n;
+        let n = (words - i).min(64);
+        ok &= part_ok(t, i, n, na, resource);
+        i += n;
     }
     ok
 }
@@ -82,8 +78,8 @@ pub fn count_bytes(
         → counters.new ≡ bytes_of_all 8 (cond (counts_request (get_or es mcid 0) at kind) (set ns mcid (added w bytes (get_or ns mcid 0))) ns) }
 {
     let i = mcid as usize;
-    let counter = counted_bytes(w, word64(counters, i), word16(events, i), at, kind, bytes);
-    put64(counters, i, counter);
+    let counter = counted_bytes(w, word(counters, i, 0), word(events, i, 0), at, kind, bytes);
+    put(counters, i, counter);
 }
 
 // The write of v to mon_ctl with its operation's STATUS.
@@ -104,12 +100,12 @@ pub fn write_mon(
         na,
         status,
         registers.value,
-        word64(counters, i),
-        word16(events, i),
+        word(counters, i, 0),
+        word(events, i, 0),
         v,
     );
-    put64(counters, i, left.counter);
-    put16(events, i, left.setting as u64);
+    put(counters, i, left.counter);
+    put(events, i, left.setting);
     Registers {
         ctl: left.ctl,
         value: left.value,

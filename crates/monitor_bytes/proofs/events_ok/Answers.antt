@@ -13,14 +13,11 @@ use Rattle.monitor_bytes.proofs.events_ok.Goals as goal
 pub loop-i-init : goal.loop-i-init
 loop-i-init c = (omega arith, sym (all_none _))
 
-pub part_ok-ok-requires : goal.part_ok-ok-requires
-part_ok-ok-requires c = (c.requires, (c.part_length-n.ensures.1.0, omega (arith, c.part_length-n.ensures.1.1)))
-
 pub loop-i-preserved : goal.loop-i-preserved
 loop-i-preserved c =
     let a = c.args in
     let loop = c.loop-i in
-    (omega (arith, c.part_length-n.ensures.1.1), part_joined (setting_ok a.na a.resource) (table_of 2 a.t.now) loop.i _ _ _ loop.invariant.1 c.part_ok-ok.ensures)
+    (omega (arith, c.min-n.ensures), part_joined (setting_ok a.na a.resource) (table_of 2 a.t.now) loop.i _ _ _ loop.invariant.1 c.part_ok-ok.ensures)
 
 pub returns : goal.returns
 returns c =

@@ -5,5 +5,5 @@ pub returns : goal.returns
 returns c =
     λ ns es hn he.
     let left = c.before in
-    wrote_bytes _ _ ns es hn he _ _ _ _ _ _ left.args.registers _ _ _ left.named_mcid-i.ensures left.word64.ensures
-    left.word16.ensures left.mon_after-left.ensures c.put64.ensures c.put16.ensures
+    wrote_bytes _ _ ns es hn he _ _ _ _ _ _ left.args.registers _ _ _ left.named_mcid-i.ensures left.word.ensures
+    left.word-2.ensures left.mon_after-left.ensures c.put.ensures c.put-2.ensures
