@@ -13,14 +13,7 @@ ghost use Rattle.bandwidth_grants.specs.Grants.{holder_in, Granted, Fits, RowFit
 use bandwidth_settings::{is_holder, is_sharer, reserved_blocks};
 use bandwidth_setup::Setup;
 use fields::field;
-use tables::{least, pick, put32, saturating_sub, word32};
-
-// The AT of the holder that a request is led to, if there is one.
-#[derive(Clone, Copy)]
-pub enum Holder {
-    Nobody,
-    Held(u64),
-}
+use tables::{pick, put};
 
 // The bytes granted: reserved ones, of the holder's reservation, and those of the pool.
 #[derive(Clone, Copy)]
@@ -36,19 +29,19 @@ fn shared_at(word: u64) -> u64
     field(word, 28, 3)
 }
 
-// The holder that an AT is led to, by its RCID's words: itself, or the one that it shares.
-pub fn holder_of(row: &[u32], at: u64) -> Holder
+// The AT of the holder that an AT is led to, by its RCID's words: itself, or the one that it shares.
+pub fn holder_of(row: &[u32], at: u64) -> Option<u64>
     ensures { holder_from result ≡ holder_in row.now at }
 {
-    let word = word32(row, at as usize) as u64;
+    let word = u64::from(tables::word(row, at as usize, 0));
     let other = shared_at(word);
     if is_holder(word) {
-        return Holder::Held(at);
+        Some(at)
+    } else if is_sharer(word) {
+        Some(other)
+    } else {
+        None
     }
-    if is_sharer(word) {
-        return Holder::Held(other);
-    }
-    Holder::Nobody
 }
 
 // What is left of the reservation of a holder with this word, up to `bytes`.
@@ -56,7 +49,7 @@ pub fn from_reservation(setup: Setup, word: u64, used: u64, bytes: u64) -> u64
     requires { Ranges (setup_of setup) }
     ensures { Small (min bytes (reserved word * setup.q - used)) bytes result }
 {
-    least(bytes, saturating_sub(reserved_blocks(word) * setup.q, used))
+    bytes.min((reserved_blocks(word) * setup.q).saturating_sub(used))
 }
 
 // What the pool has left for a holder with this word, up to `rest`.
@@ -64,11 +57,11 @@ fn from_pool(setup: Setup, word: u64, reserved: u64, pool: u64, rest: u64) -> u6
     requires { Ranges (setup_of setup) }
     ensures { Small (cond (eqb (weight_of word) 0) 0 (min rest ((setup.nbwblks - reserved) * setup.q - pool))) rest result }
 {
-    let size = saturating_sub(setup.nbwblks, reserved) * setup.q;
+    let size = setup.nbwblks.saturating_sub(reserved) * setup.q;
     pick(
         field(word, 20, 8) == 0,
         0,
-        least(rest, saturating_sub(size, pool)),
+        rest.min(size.saturating_sub(pool)),
     )
 }
 
@@ -79,20 +72,21 @@ fn grant_of(
     used: &[u32],
     pool: u64,
     reserved: u64,
-    holder: Holder,
+    holder: Option<u64>,
     bytes: u64,
 ) -> Grant
     requires { Ranges (setup_of setup) }
     ensures { Granted (setup_of setup) reserved row.now used.now pool (holder_from holder) bytes (grant_from result) }
 {
     match holder {
-        Holder::Nobody => Grant {
+        None => Grant {
             reserved: 0,
             pool: 0,
         },
-        Holder::Held(i) => {
-            let word = word32(row, i as usize) as u64;
-            let own = from_reservation(setup, word, word32(used, i as usize) as u64, bytes);
+        Some(i) => {
+            let word = u64::from(tables::word(row, i as usize, 0));
+            let before = u64::from(tables::word(used, i as usize, 0));
+            let own = from_reservation(setup, word, before, bytes);
             Grant {
                 reserved: own,
                 pool: from_pool(setup, word, reserved, pool, bytes - own),
@@ -102,15 +96,15 @@ fn grant_of(
 }
 
 // Adds a grant to the used bytes, and returns what the pool gave with it.
-pub fn spend(used: &mut [u32], pool: u64, holder: Holder, grant: Grant) -> u64
+pub fn spend(used: &mut [u32], pool: u64, holder: Option<u64>, grant: Grant) -> u64
     requires { Fits used.old pool (holder_from holder) (grant_from grant) }
     ensures { (row : List ℕ) → usage row used.new result ≡ spend (usage row used.old pool) (holder_from holder) (grant_from grant) }
 {
     match holder {
-        Holder::Nobody => pool,
-        Holder::Held(i) => {
-            let old = word32(used, i as usize) as u64;
-            put32(used, i as usize, (old + grant.reserved) as u32);
+        None => pool,
+        Some(i) => {
+            let old = u64::from(tables::word(used, i as usize, 0));
+            put(used, i as usize, (old + grant.reserved) as u32);
             pool + grant.pool
         }
     }

@@ -1,7 +1,7 @@
 -- The words of waiters: the tests that check 3 makes of one are the definition's.
-use mathlib.Core.Path.{◌≡◌, refl, sym, subst, ◌∙◌}
-use mathlib.Core.Bool.{Bool, true, false, not, cond, ◌&&◌, ◌||◌}
-use mathlib.Core.List.{List, [], ◌∷◌}
+use mathlib.Core.Path.{◌≡◌, sym, subst, ◌∙◌}
+use mathlib.Core.Bool.{true, cond, ◌&&◌, ◌||◌}
+use mathlib.Core.List.{List}
 use Prim.Native.Nat.{ℕ, ◌/◌, ◌%◌, ◌^◌}
 use native.Mathlib.Nat.{mod-eq_of_lt, mod-lt}
 use lib.Bits.{and_mask}
@@ -14,10 +14,9 @@ use Rattle.fields.proofs.Laws.{pack_unpack}
 use Rattle.fields.proofs.Registers.{waiter_ordered}
 use Rattle.tables.specs.Below.{all_below}
 use Rattle.tables.specs.View.{union_below}
-use Rattle.tables.proofs.Tests.{or_l, eqb_in, is_true, is_false, same_test}
+use Rattle.tables.proofs.Tests.{or_l, eqb_in, is_true, same_test}
 use Rattle.tables.proofs.Laws.{all_in}
 use Rattle.tables.proofs.Union.{union_zero, none_bad, low_test}
-use Rattle.access.specs.Checks.{◌gives◌, first}
 use Rattle.bandwidth_model.specs.Rules.{Setup}
 use Rattle.bandwidth_model.specs.Waiters.{need_of, waiter_mcid, waiter_at, waiter_ok}
 
@@ -52,22 +51,3 @@ unfolding waiter_ok
 none_waits su t e =
     sym (is_true (all_below (length t) (λ i. waiter_ok su (get_or t i 0)))
     (all_in (length t) (λ i. waiter_ok su (get_or t i 0)) (λ i l. or_l (eqb (get_or t i 0) 0) _ (eqb_in (get_or t i 0) 0 (union_zero (length t) (λ k. get_or t k 0) e i l)))))
-
--- ---- a request that is put to wait
-
--- the first of three checks that fails
-module _ (a b c : Bool) where
-  abbrev found : ℕ
-  found = first ((a gives 7) ∷ (b gives 10) ∷ (c gives 11) ∷ []) 0
-
-  pub found_7 : a ≡ true → 7 ≡ found
-  found_7 e = rw e refl
-
-  pub found_10 : a ≡ false → T b → 10 ≡ found
-  found_10 e f = rw (e, is_true b f) refl
-
-  pub found_11 : a ≡ false → T (not b) → T c → 11 ≡ found
-  found_11 e f g = rw (e, is_false b f, is_true c g) refl
-
-  pub found_none : a ≡ false → T (not b) → T (not c) → 0 ≡ found
-  found_none e f g = rw (e, is_false b f, is_false c g) refl

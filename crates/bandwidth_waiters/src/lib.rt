@@ -13,20 +13,20 @@ ghost use Rattle.bandwidth_grants.specs.View.{holder_from, grant_from};
 ghost use Rattle.bandwidth_grants.specs.Grants.{holder_in};
 ghost use Rattle.bandwidth_waiters.specs.Served.{Served, RowOpens, RowServed};
 
-use bandwidth_grants::{Given, Grant, Holder, from_reservation, holder_of, spend};
+use bandwidth_grants::{Given, Grant, from_reservation, holder_of, spend};
 use bandwidth_setup::Setup;
 use fields::field;
 pub use service::{serve_all, weights_of};
-use tables::{least, pick, word32};
-pub use words::{bad_waiter, need_of, put_word, served_word, wait_verdict, waiters_ok};
+use tables::pick;
+pub use words::{bad_waiter, check_wait, need_of, put_word, served_word, wait_verdict, waiters_ok};
 
 // A holder's word in force, by its RCID's words; 0 for nobody.
-fn held_word(row: &[u32], holder: Holder) -> u64
+fn held_word(row: &[u32], holder: Option<u64>) -> u64
     ensures { result ≡ held_word row.now (holder_from holder) }
 {
     match holder {
-        Holder::Nobody => 0,
-        Holder::Held(i) => word32(row, i as usize) as u64,
+        None => 0,
+        Some(i) => u64::from(tables::word(row, i as usize, 0)),
     }
 }
 
@@ -69,7 +69,7 @@ fn served_of(setup: Setup, size: u64, weights: u64, word: u64, need: u64) -> Gra
     let weight = weight_by(setup, word, need);
     Grant {
         reserved: own,
-        pool: least(need - own, share(size, weight, weights)),
+        pool: (need - own).min(share(size, weight, weights)),
     }
 }
 

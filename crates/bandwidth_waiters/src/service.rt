@@ -11,22 +11,21 @@ use crate::{serve, share_weight};
 use bandwidth_setup::Setup;
 use fields::Waiter;
 use monitor::count_bytes;
-use tables::{put64, row_at, word64};
+use std::ops::Range;
+use tables::{put, row_of};
 
 // The weight of an RCID's waiter, 0 where none waits.
 fn weight_at(setup: Setup, active: &[u32], waiters: &[u64], rcid: usize) -> u64
     requires { Opens (setup_of setup) active.now waiters.now × (rcid < setup.nr) }
     ensures { Small (weight_in (setup_of setup) active.now waiters.now rcid) 255 result }
 {
-    let word = word64(waiters, rcid);
+    let word = tables::word(waiters, rcid, 0);
     if word == 0 {
         return 0;
     }
     let waiter = Waiter::unpack(word);
-    let place = row_at(setup.nr, setup.na, rcid as u64);
-    let from = place.from;
-    let to = place.to;
-    share_weight(setup, &active[from..to], waiter.at, waiter.need)
+    let row = row_of(setup.nr, setup.na, rcid as u64);
+    share_weight(setup, &active[row], waiter.at, waiter.need)
 }
 
 // The sum of the weights of all waiters.
@@ -36,7 +35,7 @@ pub fn weights_of(setup: Setup, active: &[u32], waiters: &[u64]) -> u64
 {
     let mut sum = 0u64;
     for rcid in 0..waiters.len() {
-        sum = sum + weight_at(setup, active, waiters, rcid);
+        sum += weight_at(setup, active, waiters, rcid);
     }
     sum
 }
@@ -58,18 +57,16 @@ fn serve_at(
     ensures { tables used.new result counters.new waiters.new
         ≡ turn (setup_of setup) active.now events.now size weights (tables used.old pool counters.old waiters.old) rcid }
 {
-    let word = word64(waiters, rcid);
+    let word = tables::word(waiters, rcid, 0);
     if word == 0 {
         return pool;
     }
     let waiter = Waiter::unpack(word);
-    let place = row_at(setup.nr, setup.na, rcid as u64);
-    let from = place.from;
-    let to = place.to;
+    let Range { start, end } = row_of(setup.nr, setup.na, rcid as u64);
     let given = serve(
         setup,
-        &active[from..to],
-        &mut used[from..to],
+        &active[start..end],
+        &mut used[start..end],
         pool,
         size,
         weights,
@@ -86,7 +83,7 @@ fn serve_at(
         waiter.write,
         sum,
     );
-    put64(waiters, rcid, served_word(word, sum));
+    put(waiters, rcid, served_word(word, sum));
     given.pool
 }
 
@@ -107,12 +104,10 @@ pub fn serve_all(
         ≡ turns (setup_of setup) active.now events.now size weights (tables used.old 0 counters.old waiters.old) setup.nr }
 {
     let mut pool = 0u64;
-    let mut rcid: usize = 0;
-    while rcid < waiters.len() {
+    for rcid in 0..waiters.len() {
         pool = serve_at(
             setup, active, used, counters, events, waiters, size, weights, pool, rcid,
         );
-        rcid += 1;
     }
     pool
 }

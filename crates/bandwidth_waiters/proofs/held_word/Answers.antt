@@ -1,11 +1,11 @@
-use mathlib.Core.Path.{refl}
+use mathlib.Core.Path.{refl, ◌∙◌}
 use Rattle.bandwidth_model.specs.Waiters.{held_word}
 use Rattle.bandwidth_waiters.proofs.held_word.Goals as goal
 
-pub returns-in-Nobody : goal.returns-in-Nobody
+pub returns-in-None : goal.returns-in-None
 unfolding held_word
-returns-in-Nobody c = rw c.in-Nobody.is refl
+returns-in-None c = rw c.in-None.is refl
 
-pub returns-in-Held : goal.returns-in-Held
+pub returns-in-Some : goal.returns-in-Some
 unfolding held_word
-returns-in-Held c = rw c.in-Held.is c.word32.ensures
+returns-in-Some c = rw c.in-Some.is (c.from.ensures ∙ c.word.ensures)

@@ -1,37 +1,23 @@
-use mathlib.Core.Path.{◌≡◌, refl, ap, ◌∙◌}
 use native.Mathlib.Omega.{arith}
-use Rattle.std.proofs.Common.{rules}
 use Rattle.bandwidth_setup.specs.View.{setup_of}
-use Rattle.bandwidth_waiters.specs.Turns.{tables, turns}
+use Rattle.bandwidth_waiters.specs.Turns.{tables}
 use Rattle.bandwidth_waiters.proofs.Windows.{turns_ready, turns_none, turns_next}
 use Rattle.bandwidth_waiters.proofs.service.serve_all.Goals as goal
 
 pub loop-rcid-init : goal.loop-rcid-init
-loop-rcid-init c = (omega arith, (turns_none _ _ _ _ _ _, (refl, (refl, refl))))
+loop-rcid-init c = turns_none _ _ _ _ _ _
 
 pub serve_at-pool-requires : goal.serve_at-pool-requires
 serve_at-pool-requires c =
     let l = c.loop-rcid in
     let a = c.before in
     let p = a.requires in
-    rw l.invariant.1.0 (turns_ready p.0 _ _ a.args.events.now p.1.0 p.1.1.0 p.1.1.1 l.rcid (omega (arith, p.0.waiters_long, l.invariant.1.1.1.1)))
-
-pub loop-rcid-smaller : goal.loop-rcid-smaller
-loop-rcid-smaller c = omega (arith, c.loop-rcid.invariant.1.1.1.1)
+    rw l.invariant (turns_ready p.0 _ _ a.args.events.now p.1.0 p.1.1.0 p.1.1.1 l.rcid (omega (arith, p.0.waiters_long)))
 
 pub loop-rcid-preserved : goal.loop-rcid-preserved
 loop-rcid-preserved c =
     let s = c.before in
     let l = s.loop-rcid in
     let a = s.args in
-    let first = tables a.used.now 0 a.counters.now a.waiters.now in (
-      omega (arith, l.invariant.1.1.1.1),
-      (turns_next (setup_of a.setup) a.active.now a.events.now a.size a.weights first l.rcid l.invariant.1.0 s.serve_at-pool.ensures, (search rules, (search rules, search rules))),
-    )
-
-pub returns : goal.returns
-returns c =
-    let l = c.loop-rcid in
-    let a = c.before in
-    let e : l.rcid ≡ a.args.setup.nr = omega (arith, a.requires.0.waiters_long, l.invariant.1.1.1.1) in
-    l.invariant.1.0 ∙ ap (turns _ _ _ _ _ _) e
+    let first = tables a.used.now 0 a.counters.now a.waiters.now in
+    turns_next (setup_of a.setup) a.active.now a.events.now a.size a.weights first l.rcid l.invariant s.serve_at-pool.ensures

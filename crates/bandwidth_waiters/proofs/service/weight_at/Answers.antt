@@ -12,12 +12,12 @@ use Rattle.bandwidth_waiters.proofs.service.weight_at.Goals as goal
 pub returns-then-word-eq0 : goal.returns-then-word-eq0
 returns-then-word-eq0 c =
     let w = c.before in
-    weight_none w.requires.0 _ (sym w.word64-word.ensures ∙ c.if-word-eq0.true)
+    weight_none w.requires.0 _ (sym w.word-word.ensures ∙ c.if-word-eq0.true)
 
 pub slice_bounds-share_weight-end : goal.slice_bounds-share_weight-end
 slice_bounds-share_weight-end c =
     let a = c.before in
-    omega (arith, row_end (setup_of a.args.setup) a.args.active.now a.requires.0.active_long c.row_at-place.ensures)
+    omega (arith, row_end (setup_of a.args.setup) a.args.active.now a.requires.0.active_long c.row_of-row.ensures)
 
 pub returns : goal.returns
 unfolding need_of waiter_at
@@ -28,6 +28,6 @@ returns c =
     let w = e.before in
     let a = w.before in
     let is = u.unpack-waiter.ensures.is in
-    let word = w.word64-word.ensures in
-    weight_row a.requires.0 _ a.requires.1 r.row_at-place.ensures (λ z. e.if-word-eq0.false (word ∙ z))
+    let word = w.word-word.ensures in
+    weight_row a.requires.0 _ a.requires.1 r.row_of-row.ensures (λ z. e.if-word-eq0.false (word ∙ z))
     (ap (λ (vs : List ℕ). get_or vs 3 0) is ∙ ap need_of word) (ap (λ (vs : List ℕ). get_or vs 1 0) is ∙ ap waiter_at word) c.share_weight.ensures

@@ -9,16 +9,16 @@ use Rattle.bandwidth_setup.specs.View.{setup_of}
 use Rattle.bandwidth_waiters.proofs.Forms.{bad_at, waiters_test}
 use Rattle.bandwidth_waiters.proofs.words.waiters_ok.Goals as goal
 
-pub loop-i-init : goal.loop-i-init
-loop-i-init c = (omega arith, sym (union_none _))
+pub loop-w-init : goal.loop-w-init
+loop-w-init c = sym (union_none _)
 
-pub loop-i-preserved : goal.loop-i-preserved
+pub loop-w-preserved : goal.loop-w-preserved
 unfolding bad_at
-loop-i-preserved c = (omega arith, rw union_next (cc))
+loop-w-preserved c = rw union_next (cc)
 
 pub returns : goal.returns
 returns c =
     let a = c.args in
-    let e : c.loop-i.i ≡ length a.t.now = omega arith in
-    ap (λ (x : ℕ). eqb x 0) (c.loop-i.invariant.1 ∙ ap (λ (n : ℕ). union_below n (bad_at (setup_of a.setup) a.t.now)) e)
+    let e : c.loop-w.w-index ≡ length a.t.now = omega arith in
+    ap (λ (x : ℕ). eqb x 0) (c.loop-w.invariant ∙ ap (λ (n : ℕ). union_below n (bad_at (setup_of a.setup) a.t.now)) e)
     ∙ waiters_test (setup_of a.setup) a.t.now (length a.t.now)

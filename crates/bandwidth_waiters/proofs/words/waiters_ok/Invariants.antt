@@ -1,14 +1,8 @@
 use mathlib.Core.Path.{◌≡◌}
-use Prim.Native.Nat.{◌≤◌, ◌-◌}
-use lib.ListN.{length}
 use Rattle.tables.specs.View.{union_below}
 use Rattle.bandwidth_setup.specs.View.{setup_of}
 use Rattle.bandwidth_waiters.proofs.Forms.{bad_at}
 use Rattle.bandwidth_waiters.proofs.words.waiters_ok.Given as goal
 
-abbrev pub invariant-loop-i : goal.invariant-loop-i
-invariant-loop-i l =
-    ((l.i-end ≡ length l.t) × (l.i ≤ l.i-end)) × (l.bits ≡ union_below l.i (bad_at (setup_of l.setup) l.t))
-
-abbrev pub decreases-loop-i : goal.decreases-loop-i
-decreases-loop-i l = l.i-end - l.i
+abbrev pub invariant-loop-w : goal.invariant-loop-w
+invariant-loop-w l = l.bits ≡ union_below l.w-index (bad_at (setup_of l.setup) l.t)
