@@ -4,6 +4,7 @@
 mod endian;
 mod entry;
 mod part;
+mod storage;
 
 ghost use Rattle.std.specs.Prelude.{◌≡◌, ◌+◌, ◌*◌, ◌<◌, ◌≤◌, ◌^◌, length, take, drop, replicate};
 ghost use Rattle.words.specs.Words.{word_of, words_of, bytes_of_all, stored, with_word};
@@ -11,6 +12,7 @@ ghost use Rattle.words.specs.Words.{word_of, words_of, bytes_of_all, stored, wit
 pub use endian::LittleEndian;
 pub use entry::{union64, word, word16, word32, word64};
 pub use part::{load_part, load_part16, load_part32, store_part, store_part32, store_part64};
+pub use storage::Storage;
 
 // The byte at `at`.
 fn load8(b: &[u8], at: usize) -> u64
