@@ -1,18 +1,18 @@
 -- What loops over the words of masks keep.
 use mathlib.Core.Path.{◌≡◌, refl, sym, ap, ◌∙◌}
-use mathlib.Core.List.{List}
+use mathlib.Core.List.{List, ◌++◌}
 use Prim.Native.Nat.{ℕ, ◌+◌, ◌-◌, ◌*◌, ◌^◌, ◌≤◌, ◌<◌}
 use native.Mathlib.Nat.{add-mul, one-mul, zero-mul, suc-mul, mul-le-mul_right, le_of_mul-le-mul_right}
 use native.Mathlib.Omega.{arith}
 use borrow.Author.Count.{below_more}
 use lib.Bits.{bit_or}
 use lib.Dec.{eqb, eqb→eq, leb, leb→le, nleb→lt}
-use lib.ListN.{length, get_or, set, length-set, replicate, length-replicate}
-use lib.Seq.{get_or-set_same, get_or-set_other, ext_get_or}
+use lib.ListN.{length, get_or, set, drop, length-set, length-append, get_or-append, replicate, length-replicate, get_or-replicate}
+use lib.Seq.{get_or-set_same, get_or-set_other, get_or-append-add, ext_get_or}
 use Rattle.tables.specs.Parts.{with_part}
 use Rattle.tables.specs.View.{union_below}
 use Rattle.tables.proofs.Tests.{cases, neqb}
-use Rattle.tables.proofs.Laws.{get_d_zeros}
+use Rattle.tables.proofs.Laws.{get_d_zeros, drop_replicate}
 use Rattle.tables.proofs.Parts.{row_inside}
 use Rattle.tables.proofs.Union.{union_none, union_next, union_same}
 use Rattle.numbers.specs.Numbers.{value, words_for, number_in, words_of}
@@ -54,6 +54,17 @@ module _ {f : ℕ → ℕ} where
   pub loaded_end : {mask : List ℕ} {n : ℕ} → n ≤ 16 → Loaded f mask n → number_in mask ≡ value n f
   unfolding number_in
   loaded_end {mask} {n} l d = value_pad n (length mask) (λ k. get_or mask k 0) f (omega (arith, d.long)) d.done (λ k b c. d.rest k b)
+
+-- n words of x over the first of 16 that are 0
+pub loaded_front : (n x : ℕ) {front : List ℕ} → n ≤ 16 → front ≡ replicate n x → Loaded (λ k. x) (front ++ drop n (replicate 16 0)) n
+loaded_front n x {front} l e =
+    let long : length front ≡ n = ap length e ∙ length-replicate {A = ℕ} n x in
+    let rest : drop n (replicate 16 0) ≡ replicate (16 - n) 0 = drop_replicate n 16 0 in
+    record {
+      long = rw (rest, length-append) (omega (arith, length-replicate {A = ℕ} (16 - n) 0));
+      done = λ k b. get_or-append front (drop n (replicate 16 0)) 0 k (omega arith) ∙ ap (λ t. get_or t k 0) e ∙ get_or-replicate n k x 0 b;
+      rest = λ k b. let at : k ≡ length front + (k - n) = omega arith in rw (at, get_or-append-add, rest) (get_d_zeros (16 - n) (k - n));
+    }
 
 -- all of c bits, once the highest word is set
 pub all_ones : (c n top : ℕ) (mask : List ℕ) → 1 ≤ c → n ≡ words_for c → n ≤ 16 → top ≡ 2 ^ top_bits c - 1 → Loaded (λ k. 2 ^ 64 - 1) mask n

@@ -1,18 +1,15 @@
-// Masks of several words, the lowest first: a mask as 16 words, and masks of n words each in a lent table.
+// Masks of several words, the lowest first: a mask as 16 words, and masks of n words each in a lent table of words or of bytes.
 #![tactic(auto)]
 
 mod table;
 
-ghost use mathlib.Core.Path.{◌≡◌};
-ghost use Prim.Native.Nat.{ℕ, ◌-◌, ◌*◌, ◌%◌, ◌^◌, ◌≤◌, ◌<◌};
-ghost use lib.Dec.{eqb};
-ghost use lib.ListN.{length};
+ghost use Rattle.std.specs.Prelude.{◌≡◌, ℕ, ◌-◌, ◌*◌, ◌%◌, ◌^◌, ◌≤◌, ◌<◌, eqb, length};
 ghost use Rattle.numbers.specs.Numbers.{words_for, word_of, put_word, bits_below, number_in, words_of};
 ghost use Rattle.mask_tables.specs.Masks.{TopsOf};
 
 use fields::ones;
 pub use table::{fill_masks, load, load_if, store, store_if, tops};
-use tables::{put64, union64, word64};
+use tables::{put, union64, word};
 
 // How many words a mask of `c` bits has.
 pub fn words_for(c: u64) -> u64
@@ -34,7 +31,7 @@ pub fn highest(c: u64) -> u64
 pub fn mask_word(mask: &[u64], i: u64) -> u64
     ensures { result ≡ word_of (number_in mask.now) i }
 {
-    word64(mask, i as usize)
+    word(mask, i as usize, 0)
 }
 
 // Stores w, without bits `c` and above, as word i of a mask of `c` bits.
@@ -44,9 +41,9 @@ pub fn put_word(mask: &mut [u64], c: u64, i: u64, w: u64)
         × (number_in mask.old < 2 ^ c → number_in mask.new ≡ put_word (number_in mask.old) i w % 2 ^ c) }
 {
     if i + 1 == words_for(c) {
-        put64(mask, i as usize, w & highest(c));
+        put(mask, i as usize, w & highest(c));
     } else {
-        put64(mask, i as usize, w);
+        put(mask, i as usize, w);
     }
 }
 
@@ -72,8 +69,8 @@ pub fn count_bits(mask: &[u64]) -> u64
     ensures { (c : ℕ) → number_in mask.now < 2 ^ c → result ≡ bits_below c (number_in mask.now) }
 {
     let mut sum = 0u64;
-    for i in 0..mask.len() {
-        sum = sum + u64::count_ones(word64(mask, i)) as u64;
+    for w in mask {
+        sum += w.count_ones() as u64;
     }
     sum
 }
@@ -85,9 +82,7 @@ pub fn all_set(c: u64) -> [u64; 16]
 {
     let n = words_for(c) as usize;
     let mut mask = [0u64; 16];
-    for i in 0..n {
-        mask[i] = 0xffff_ffff_ffff_ffff;
-    }
+    mask[..n].fill(u64::MAX);
     mask[n - 1] = highest(c);
     mask
 }

@@ -1,50 +1,51 @@
-// Masks of n words each in a lent table.
-ghost use mathlib.Core.Path.{◌≡◌};
-ghost use mathlib.Core.Bool.{cond};
-ghost use mathlib.Core.List.{◌++◌};
-ghost use Prim.Native.Nat.{ℕ, ◌+◌, ◌-◌, ◌*◌, ◌^◌, ◌≤◌};
-ghost use lib.Dec.{T};
-ghost use lib.ListN.{length, get_or, replicate};
+// Masks of n words each in a lent table of words or of bytes.
+ghost use Rattle.std.specs.Prelude.{◌≡◌, List, ◌++◌, ℕ, ◌+◌, ◌-◌, ◌*◌, ◌^◌, ◌≤◌, cond, IsTrue, length, get_or, replicate};
 ghost use Rattle.tables.specs.Parts.{with_part};
 ghost use Rattle.tables.specs.View.{union_below};
 ghost use Rattle.numbers.specs.Numbers.{words_for, number_in, words_of, number_at, words_of_all};
 
 use crate::all_set;
-use tables::{copy64, fill64, union64, word64};
+use words::Storage;
 
-// The mask whose words begin at `from`.
-pub fn load(masks: &[u64], from: usize, n: usize) -> [u64; 16]
+// The mask whose words begin at word `from`.
+pub fn load<S: Storage>(masks: &[S], from: usize, n: usize) -> [u64; 16]
     requires { (n ≤ 16) × (from ≤ 1048576) }
-    ensures { number_in result ≡ number_at n masks.now from }
+    ensures { number_in result ≡ number_at n (S.words_in masks.now) from }
 {
     let mut mask = [0u64; 16];
     for i in 0..n {
-        mask[i] = word64(masks, from + i);
+        mask[i] = S::word_at(masks, from + i);
     }
     mask
 }
 
-// Stores the n low words of a mask as those that begin at `from`.
-pub fn store(masks: &mut [u64], from: usize, n: usize, mask: &[u64])
-    requires { (n ≤ length mask.now) × (from + n ≤ length masks.old) }
-    ensures { masks.new ≡ with_part from n masks.old (words_of n (number_in mask.now)) }
+// Stores the n low words of a mask as those that begin at word `from`.
+pub fn store<S: Storage>(masks: &mut [S], from: usize, n: usize, mask: &[u64])
+    requires { (n ≤ length mask.now) × ((from + n) * S.SIZE ≤ length masks.old) }
+    ensures { (ws : List ℕ) → S.fill ws masks.old → S.fill (with_part from n ws (words_of n (number_in mask.now))) masks.new }
 {
-    let to = from + n;
-    copy64(&mut masks[from..to], &mask[..n]);
+    S::store_words(&mask[..n], masks, from);
 }
 
-// The mask whose words begin at `from` where b holds, else `mask`.
-pub fn load_if(b: bool, masks: &[u64], from: usize, n: usize, mask: [u64; 16]) -> [u64; 16]
+// The mask whose words begin at word `from` where b holds, else `mask`.
+pub fn load_if<S: Storage>(
+    b: bool,
+    masks: &[S],
+    from: usize,
+    n: usize,
+    mask: [u64; 16],
+) -> [u64; 16]
     requires { (n ≤ 16) × (from ≤ 1048576) }
-    ensures { number_in result ≡ cond b (number_at n masks.now from) (number_in mask) }
+    ensures { number_in result ≡ cond b (number_at n (S.words_in masks.now) from) (number_in mask) }
 {
     if b { load(masks, from, n) } else { mask }
 }
 
 // Stores the n low words of a mask where b holds.
-pub fn store_if(b: bool, masks: &mut [u64], from: usize, n: usize, mask: &[u64])
-    requires { (n ≤ length mask.now) × (T b → from + n ≤ length masks.old) }
-    ensures { masks.new ≡ cond b (with_part from n masks.old (words_of n (number_in mask.now))) masks.old }
+pub fn store_if<S: Storage>(b: bool, masks: &mut [S], from: usize, n: usize, mask: &[u64])
+    requires { (n ≤ length mask.now) × (IsTrue b → (from + n) * S.SIZE ≤ length masks.old) }
+    ensures { (ws : List ℕ) → S.fill ws masks.old
+        → S.fill (cond b (with_part from n ws (words_of n (number_in mask.now))) ws) masks.new }
 {
     if b {
         store(masks, from, n, mask);
@@ -52,30 +53,32 @@ pub fn store_if(b: bool, masks: &mut [u64], from: usize, n: usize, mask: &[u64])
 }
 
 // Every bit of the highest words of all masks.
-pub fn tops(masks: &[u64], n: usize) -> u64
+pub fn tops<S: Storage>(masks: &[S], n: usize) -> u64
     requires { (1 ≤ n) × (n ≤ 16) }
-    ensures { (k : ℕ) → length masks.now ≡ k * n → result ≡ union_below k (λ p. get_or masks.now (p * n + (n - 1)) 0) }
+    ensures { (k : ℕ) → length masks.now ≡ k * n * S.SIZE → result ≡ union_below k (λ p. get_or (S.words_in masks.now) (p * n + (n - 1)) 0) }
 {
+    let end = S::count(masks);
     if n == 1 {
-        return union64(masks);
+        return S::union_of(masks);
     }
     let mut bits = 0u64;
     let mut at = n - 1;
-    while at < masks.len() {
-        bits = bits | masks[at];
+    while at < end {
+        bits |= S::word_at(masks, at);
         at += n;
     }
     bits
 }
 
 // The first k masks have all of `c` bits, the others none.
-pub fn fill_masks(masks: &mut [u64], k: usize, c: u64)
-    requires { (1 ≤ c) × ((c ≤ 1024) × (k * words_for c ≤ length masks.old)) }
-    ensures { (m : ℕ) → length masks.old ≡ (k + m) * words_for c → masks.new ≡ words_of_all (words_for c) (replicate k (2 ^ c - 1) ++ replicate m 0) }
+pub fn fill_masks<S: Storage>(masks: &mut [S], k: usize, c: u64)
+    requires { (1 ≤ c) × ((c ≤ 1024) × (k * words_for c * S.SIZE ≤ length masks.old)) }
+    ensures { (m : ℕ) → length masks.old ≡ (k + m) * words_for c * S.SIZE
+        → S.fill (words_of_all (words_for c) (replicate k (2 ^ c - 1) ++ replicate m 0)) masks.new }
 {
     let n = crate::words_for(c) as usize;
     let mask = all_set(c);
-    fill64(masks, 0);
+    S::clear(masks);
     for i in 0..k {
         store(masks, i * n, n, &mask);
     }

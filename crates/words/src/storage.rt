@@ -1,5 +1,5 @@
 // Tables of 64-bit words that are lent as words or as their bytes.
-ghost use Rattle.std.specs.Prelude.{◌≡◌, List, ℕ, ◌+◌, ◌*◌, ◌≤◌, length, get_or, replicate};
+ghost use Rattle.std.specs.Prelude.{◌≡◌, List, ℕ, ◌+◌, ◌*◌, ◌^◌, ◌<◌, ◌≤◌, length, get_or, replicate};
 ghost use Rattle.std.proofs.Math.Dec.{lit≤};
 ghost use Rattle.tables.specs.Parts.{with_part};
 ghost use Rattle.tables.specs.View.{union_below};
@@ -18,7 +18,8 @@ pub trait Storage: Copy {
     // How many words a table has.
     fn count(table: &[Self]) -> usize
         ensures is { result ≡ length (words_in table.now) }
-        ensures sized { (n : ℕ) → length table.now ≡ n * SIZE → result ≡ n };
+        ensures sized { (n : ℕ) → length table.now ≡ n * SIZE → result ≡ n }
+        ensures small { result < 2 ^ 63 };
 
     // Word i, 0 outside.
     fn word_at(table: &[Self], i: usize) -> u64

@@ -1,18 +1,10 @@
-use mathlib.Core.Path.{◌≡◌, refl}
-use native.Mathlib.Omega.{arith}
-use Rattle.mask_tables.proofs.Loops.{loaded_none, loaded_next, all_ones}
+use Rattle.std.proofs.Common.{◌-◌, ◌^◌, ◌∙◌, ap, replicate, arith}
+use Rattle.std.proofs.Math.Seq.{length-take-le}
+use Rattle.mask_tables.proofs.Loops.{loaded_front, all_ones}
 use Rattle.mask_tables.proofs.all_set.Goals as goal
-
-pub loop-i-init : goal.loop-i-init
-loop-i-init c = (omega arith, loaded_none)
-
-pub loop-i-preserved : goal.loop-i-preserved
-loop-i-preserved c = (omega arith, loaded_next (omega arith) refl c.loop-i.invariant.1)
 
 pub returns : goal.returns
 returns c =
-    let l = c.loop-i in
-    let w = c.words_for-n in
-    let s = c.before in
-    let e : l.i ≡ w.result = omega arith in
-    all_ones s.args.c w.result c.highest.result l.mask s.requires.0 w.ensures.0 w.ensures.1.1 c.highest.ensures (rw e at l.invariant.1)
+    let n = c.words_for-n in
+    let front = c.fill.ensures.after (λ y e. e) ∙ ap (λ m. replicate m (2 ^ 64 - 1)) (length-take-le n.result (replicate 16 0) (omega arith)) in
+    all_ones c.args.c n.result c.highest.result _ c.requires.0 n.ensures.0 n.ensures.1.1 c.highest.ensures (loaded_front n.result (2 ^ 64 - 1) n.ensures.1.1 front)

@@ -10,9 +10,9 @@ returns-then-i-words_for c =
     let q = p.before in
     let s = q.before in
     let a = s.args in (
-      simp length-set at (ap length p.put64.ensures) ∙ s.requires.0,
+      simp length-set at (ap length p.put.ensures) ∙ s.requires.0,
       put_highest a.c a.i a.w a.mask.now (λ j. (c.slice_known-1.given j).fits) (omega arith) s.requires.1.1 (omega arith) _ _ _
-          q.words_for.ensures.0 p.highest.ensures (omega arith) p.put64.ensures,
+          q.words_for.ensures.0 p.highest.ensures (omega arith) p.put.ensures,
     )
 
 pub returns-else-i-words_for : goal.returns-else-i-words_for
@@ -21,7 +21,7 @@ returns-else-i-words_for c =
     let q = p.before in
     let s = q.before in
     let a = s.args in (
-      simp length-set at (ap length p.put64-else-i-words_for.ensures) ∙ s.requires.0,
+      simp length-set at (ap length p.put-else-i-words_for.ensures) ∙ s.requires.0,
       put_whole a.c a.i a.w a.mask.now (λ j. (c.slice_known-1.given j).fits) (omega arith) s.requires.1.1 (omega arith) _ _
-          q.words_for.ensures.0 (λ e. omega arith) p.put64-else-i-words_for.ensures,
+          q.words_for.ensures.0 (λ e. omega arith) p.put-else-i-words_for.ensures,
     )
