@@ -1,6 +1,6 @@
 -- What loops over the words of masks keep.
 use mathlib.Core.Path.{◌≡◌, refl, sym, ap, ◌∙◌}
-use mathlib.Core.List.{List, ◌++◌}
+use mathlib.Core.List.{List, [], ◌∷◌, ◌++◌}
 use Prim.Native.Nat.{ℕ, ◌+◌, ◌-◌, ◌*◌, ◌^◌, ◌≤◌, ◌<◌}
 use native.Mathlib.Nat.{add-mul, one-mul, zero-mul, suc-mul, mul-le-mul_right, le_of_mul-le-mul_right}
 use native.Mathlib.Omega.{arith}
@@ -9,23 +9,28 @@ use lib.Bits.{bit_or}
 use lib.Dec.{eqb, eqb→eq, leb, leb→le, nleb→lt}
 use lib.ListN.{length, get_or, set, drop, length-set, length-append, get_or-append, replicate, length-replicate, get_or-replicate}
 use lib.Seq.{get_or-set_same, get_or-set_other, get_or-append-add, ext_get_or}
+use Rattle.std.specs.Prelude.{sum_by}
+use Rattle.std.proofs.lemmas.List.Sums.{sum_by-cons}
+use Rattle.tables.specs.Below.{sum_of}
 use Rattle.tables.specs.Parts.{with_part}
 use Rattle.tables.specs.View.{union_below}
 use Rattle.tables.proofs.Tests.{cases, neqb}
-use Rattle.tables.proofs.Laws.{get_d_zeros, drop_replicate}
+use Rattle.tables.proofs.Laws.{get_d_zeros, drop_replicate, sum_of_none, sum_of_cons}
 use Rattle.tables.proofs.Parts.{row_inside}
 use Rattle.tables.proofs.Union.{union_none, union_next, union_same}
 use Rattle.numbers.specs.Numbers.{value, words_for, number_in, words_of}
 use Rattle.numbers.proofs.Words.{value_pad, words_long, words_at}
 use Rattle.numbers.proofs.Bits.{width_at}
-use Rattle.numbers.proofs.Tables.{filled_to, filled_none, filled_next}
+use Rattle.numbers.proofs.Tables.{filled_to, filled_next}
 use Rattle.numbers.proofs.Lists.{words_hold, top_bits, ones_word, words_number_in}
 
--- ---- a table of masks that is filled, one mask a turn
+-- ---- the sum over the words of a mask
 
--- a table that was set to 0 is as long as it was
-pub cleared_long : (b : List ℕ) (n : ℕ) → b ≡ replicate n 0 → length b ≡ n
-cleared_long b n e = ap length e ∙ length-replicate {A = ℕ} n 0
+pub sum_all : (f : ℕ → ℕ) (t : List ℕ) → sum_by f t ≡ sum_of f t
+sum_all f [] = sym (sum_of_none f)
+sum_all f (x ∷ t) = omega (arith, sum_all f t, sum_of_cons f x t, sum_by-cons f x t)
+
+-- ---- a table of masks that is filled, one mask a turn
 
 -- the next mask of n words lies among the k masks
 pub next_inside : (n k i w : ℕ) → n ≡ w → i < k → i * n + n ≤ k * w
@@ -59,9 +64,10 @@ module _ {f : ℕ → ℕ} where
 pub loaded_front : (n x : ℕ) {front : List ℕ} → n ≤ 16 → front ≡ replicate n x → Loaded (λ k. x) (front ++ drop n (replicate 16 0)) n
 loaded_front n x {front} l e =
     let long : length front ≡ n = ap length e ∙ length-replicate {A = ℕ} n x in
-    let rest : drop n (replicate 16 0) ≡ replicate (16 - n) 0 = drop_replicate n 16 0 in
+    let rest : ◌≡◌ {A = List ℕ} (drop n (replicate 16 0)) (replicate (16 - n) 0) = drop_replicate n 16 0 in
+    let long_rest : length {A = ℕ} (replicate (16 - n) 0) ≡ 16 - n = length-replicate {A = ℕ} (16 - n) 0 in
     record {
-      long = rw (rest, length-append) (omega (arith, length-replicate {A = ℕ} (16 - n) 0));
+      long = rw (rest, length-append) (omega arith);
       done = λ k b. get_or-append front (drop n (replicate 16 0)) 0 k (omega arith) ∙ ap (λ t. get_or t k 0) e ∙ get_or-replicate n k x 0 b;
       rest = λ k b. let at : k ≡ length front + (k - n) = omega arith in rw (at, get_or-append-add, rest) (get_d_zeros (16 - n) (k - n));
     }
@@ -128,9 +134,6 @@ one_word n t e bits h k l =
 -- ---- masks filled one after the other with x, whose 16 words are given
 
 module _ (n x : ℕ) where
-  pub fill_start : {t : List ℕ} (m : ℕ) → t ≡ replicate m 0 → t ≡ filled_to n x (length t) 0
-  fill_start {t} m e = e ∙ ap (λ (k : ℕ). replicate k 0) (sym (ap length e ∙ length-replicate {A = ℕ} m 0)) ∙ filled_none n x (length t)
-
   pub fill_turn : (w i : ℕ) {mask old new : List ℕ} → x < 2 ^ 1024 → mask ≡ words_of 16 x → old ≡ filled_to n x w i → new ≡ with_part (i * n) n old (words_of n (number_in mask))
       → new ≡ filled_to n x w (i + 1)
   fill_turn w i {mask} {old} {new} l em eo e = e ∙ rw (em, eo, words_number_in 16 x l) (filled_next n x w i)

@@ -68,11 +68,7 @@ pub fn count_bits(mask: &[u64]) -> u64
     requires { length mask.now ≤ 16 }
     ensures { (c : ℕ) → number_in mask.now < 2 ^ c → result ≡ bits_below c (number_in mask.now) }
 {
-    let mut sum = 0u64;
-    for w in mask {
-        sum += w.count_ones() as u64;
-    }
-    sum
+    mask.iter().map(|w| w.count_ones() as u64).sum()
 }
 
 // The mask that has `c` bits, all of them set.

@@ -35,4 +35,4 @@ returns g c =
     let x = 2 ^ a.c - 1 in
     let done : c.loop-i.i ≡ a.k = omega arith in
     λ m e. rw (← filled_all n x ((a.k + m) * n) a.k m refl)
-        (rw (done, c.words_for-n.ensures.0) at (c.loop-i.invariant.1 ((a.k + m) * n) (omega (arith, e))))
+    (rw (done, c.words_for-n.ensures.0) at (c.loop-i.invariant.1 ((a.k + m) * n) (omega (arith, e))))
