@@ -9,6 +9,7 @@ use lib.ListN.{length, get_or, set, take, drop, length-map, drop_of_length-le}
 use lib.Seq.{length-take-le, take_all, take-suc, drop-cons, append_snoc, get_or_at, set_at}
 use Rattle.tables.proofs.Tests.{cases}
 use Rattle.monitor.specs.Occupancy.{evicted}
+use Rattle.monitor.proofs.Steps.{put_back}
 use Rattle.units.specs.Owners.{of_rcid, flushed_owners}
 use Rattle.units.specs.Counts.{emptied, flushed}
 
@@ -50,6 +51,10 @@ module _ (rcid : ℕ) (owners : List ℕ) where
         let rest = drop (suc i) owners in
         rw (owner_next, add-one, take-suc owners i 0 h, map-append, append_snoc, drop-cons owners i 0 h)
         (cases (λ b. cond b (set (front ++ x ∷ rest) i 0) (front ++ x ∷ rest) ≡ front ++ cond b 0 x ∷ rest) (of_rcid rcid x) (λ y. set_at front x rest 0 i front_long) (λ n. refl))
+
+    -- the same where the unit's word is put back as it was if another RCID owns it
+    pub owner_flushed : let t = owners_to rcid i owners in set t i (cond (of_rcid rcid (get_or t i 0)) 0 (get_or t i 0)) ≡ owners_to rcid (i + 1) owners
+    owner_flushed = let t = owners_to rcid i owners in put_back (of_rcid rcid (get_or t i 0)) t i 0 ∙ owners_next
 
     pub counters_next : (events counters : List ℕ) → let owner = get_or (owners_to rcid i owners) i 0 in let k = counters_to events rcid i owners counters in
         cond (of_rcid rcid owner) (emptied 0 events evicted k owner) k ≡ counters_to events rcid (i + 1) owners counters

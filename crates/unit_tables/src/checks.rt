@@ -66,8 +66,8 @@ pub fn owners_ok(owners: &[u32], nr: u32, nm: u32, na: u32) -> bool
     ensures { result ≡ all_below (length owners.now) (λ i. owner_ok nr nm na (get_or owners.now i 0)) }
 {
     let mut seen = none_seen();
-    for i in 0..owners.len() {
-        seen = with_owner(seen, owners[i], nr, nm, na);
+    for owner in owners {
+        seen = with_owner(seen, *owner, nr, nm, na);
     }
     seen_ok(seen, nr, nm, na)
 }

@@ -15,15 +15,15 @@ ghost use Rattle.unit_tables.specs.View.{Identifiers, CountersOk};
 pub use checks::{none_seen, owners_ok, seen_ok, with_owner};
 use monitor::counted_fill;
 pub use owner::{emptied_counter, is_of, owner_mcid, owner_word};
-use tables::{put32, put64, word16, word32, word64};
+use tables::{put, word};
 
 // Counts an emptied unit for its owner.
 fn count_emptied(counters: &mut [u64], events: &[u16], owner: u32)
     ensures { counters.new ≡ emptied 0 events.now evicted counters.old owner }
 {
     let i = owner_mcid(owner);
-    let counter = emptied_counter(owner, word64(counters, i), word16(events, i));
-    put64(counters, i, counter);
+    let counter = emptied_counter(owner, word(counters, i, 0), word(events, i, 0));
+    put(counters, i, counter);
 }
 
 // Counts a fill for its MCID.
@@ -32,8 +32,8 @@ fn count_filled(w: u64, counters: &mut [u64], events: &[u16], mcid: u64, at: u64
     ensures { counters.new ≡ noted 0 events.now (filled w) counters.old mcid at }
 {
     let i = mcid as usize;
-    let counter = counted_fill(w, word64(counters, i), word16(events, i), at);
-    put64(counters, i, counter);
+    let counter = counted_fill(w, word(counters, i, 0), word(events, i, 0), at);
+    put(counters, i, counter);
 }
 
 // An eviction: the unit counts for its owner and becomes free.
@@ -41,8 +41,8 @@ pub fn evict(owners: &mut [u32], counters: &mut [u64], events: &[u16], unit: usi
     ensures { (owners.new ≡ set owners.old unit 0)
         × (counters.new ≡ emptied 0 events.now evicted counters.old (get_or owners.old unit 0)) }
 {
-    count_emptied(counters, events, word32(owners, unit));
-    put32(owners, unit, 0);
+    count_emptied(counters, events, word(owners, unit, 0));
+    put(owners, unit, 0);
 }
 
 // An allowed fill: the unit counts for the owner it had, and then for its new one, which may have the same MCID.
@@ -60,22 +60,20 @@ pub fn fill(
     ensures { (owners.new ≡ set owners.old unit (owner_word rcid mcid at))
         × (counters.new ≡ refilled 0 events.now (filled w) evicted counters.old (get_or owners.old unit 0) mcid at) }
 {
-    let old = word32(owners, unit);
+    let old = word(owners, unit, 0);
     count_emptied(counters, events, old);
     count_filled(w, counters, events, mcid, at);
-    put32(owners, unit, owner_word(rcid, mcid, at));
+    put(owners, unit, owner_word(rcid, mcid, at));
 }
 
 // An eviction where the RCID owns the unit.
-fn flush_unit(owners: &mut [u32], counters: &mut [u64], events: &[u16], rcid: u64, unit: usize)
-    ensures { (owners.new ≡ cond (of_rcid rcid (get_or owners.old unit 0)) (set owners.old unit 0) owners.old)
-        × (counters.new ≡ cond (of_rcid rcid (get_or owners.old unit 0))
-        (emptied 0 events.now evicted counters.old (get_or owners.old unit 0)) counters.old) }
+fn flush_unit(owner: &mut u32, counters: &mut [u64], events: &[u16], rcid: u64)
+    ensures { (owner.new ≡ cond (of_rcid rcid owner.old) 0 owner.old)
+        × (counters.new ≡ cond (of_rcid rcid owner.old) (emptied 0 events.now evicted counters.old owner.old) counters.old) }
 {
-    let owner = word32(owners, unit);
-    if is_of(owner, rcid) {
-        count_emptied(counters, events, owner);
-        put32(owners, unit, 0);
+    if is_of(*owner, rcid) {
+        count_emptied(counters, events, *owner);
+        *owner = 0;
     }
 }
 
@@ -84,7 +82,7 @@ pub fn flush(owners: &mut [u32], counters: &mut [u64], events: &[u16], rcid: u64
     ensures { (owners.new ≡ flushed_owners rcid owners.old)
         × (counters.new ≡ flushed 0 events.now evicted rcid owners.old counters.old) }
 {
-    for i in 0..owners.len() {
-        flush_unit(owners, counters, events, rcid, i);
+    for owner in owners.iter_mut() {
+        flush_unit(owner, counters, events, rcid);
     }
 }

@@ -5,5 +5,5 @@ pub returns : goal.returns
 returns c =
     let counted = c.before in
     let a = counted.args in
-    emptied_at a.counters.now a.events.now _ _ _ _ _ counted.word64.ensures counted.word16.ensures c.put64.ensures a.owner
+    emptied_at a.counters.now a.events.now _ _ _ _ _ counted.word.ensures counted.word-2.ensures c.put.ensures a.owner
     counted.owner_mcid-i.ensures counted.emptied_counter-counter.ensures

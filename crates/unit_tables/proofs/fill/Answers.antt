@@ -18,6 +18,6 @@ returns c =
     let filled = c.before in
     let emptied = filled.before in
     let a = emptied.args in (
-      c.put32.ensures ∙ rw c.owner_word.ensures,
-      rw (← emptied.word32-old.ensures) (refilled_is a.w a.counters.now a.events.now _ _ _ _ _ emptied.count_emptied.ensures filled.count_filled.ensures),
+      c.put.ensures ∙ rw c.owner_word.ensures,
+      rw (← emptied.word-old.ensures) (refilled_is a.w a.counters.now a.events.now _ _ _ _ _ emptied.count_emptied.ensures filled.count_filled.ensures),
     )

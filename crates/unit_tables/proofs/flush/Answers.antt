@@ -1,47 +1,25 @@
-use mathlib.Core.Path.{◌≡◌, refl, sym, ◌∙◌}
+use mathlib.Core.Path.{sym, ◌∙◌}
 use Prim.Native.Nat.{◌≤◌, ◌<◌}
 use native.Mathlib.Omega.{arith}
-use Rattle.std.proofs.Common.{rules}
 use lib.ListN.{length}
-use Rattle.unit_tables.proofs.Flushing.{owners_none, owners_next, owners_all, counters_none, counters_next, counters_all}
+use Rattle.unit_tables.proofs.Flushing.{owners_none, owner_flushed, owners_all, counters_none, counters_next, counters_all}
 use Rattle.unit_tables.proofs.flush.Goals as goal
 
-pub loop-i-init : goal.loop-i-init
-loop-i-init c = record {
-  within = omega arith;
-  whole = refl;
-  owners_long = refl;
-  counters_long = refl;
-  owners_are = sym (owners_none _ _);
-  counters_are = sym (counters_none _ _ _ _);
-}
+pub loop-owner-init : goal.loop-owner-init
+loop-owner-init c = record { owners_are = sym (owners_none _ _); counters_are = sym (counters_none _ _ _ _) }
 
-pub loop-i-preserved : goal.loop-i-preserved
-loop-i-preserved c =
-    let p = c.before in
-    let l = p.loop-i in
-    let a = p.args in
-    let h : l.i < length a.owners.now = omega (arith, l.invariant.whole) in
-    let owners_long : length p.flush_unit.new.owners ≡ length l.owners = search rules in
-    let counters_long : length p.flush_unit.new.counters ≡ length l.counters = search rules in
+pub loop-owner-preserved : goal.loop-owner-preserved
+loop-owner-preserved c =
+    let l = c.loop-owner in
+    let a = c.args in
+    let h : l.owner-index < length a.owners.now = omega arith in
     record {
-      within = omega arith;
-      whole = l.invariant.whole;
-      owners_long = owners_long ∙ l.invariant.owners_long;
-      counters_long = counters_long ∙ l.invariant.counters_long;
-      owners_are = rw (p.flush_unit.ensures.0, l.invariant.owners_are) (owners_next a.rcid a.owners.now l.i h);
-      counters_are = rw (p.flush_unit.ensures.1, l.invariant.owners_are, l.invariant.counters_are) (counters_next a.rcid a.owners.now l.i h a.events.now a.counters.now);
+      owners_are = rw (c.flush_unit.ensures.0, l.invariant.owners_are) (owner_flushed a.rcid a.owners.now l.owner-index h);
+      counters_are = rw (c.flush_unit.ensures.1, l.invariant.owners_are, l.invariant.counters_are) (counters_next a.rcid a.owners.now l.owner-index h a.events.now a.counters.now);
     }
-
-pub shape_of-owners : goal.shape_of-owners
-shape_of-owners c = c.loop-i.invariant.owners_long
-
-pub shape_of-counters : goal.shape_of-counters
-shape_of-counters c = c.loop-i.invariant.counters_long
 
 pub returns : goal.returns
 returns c =
-    let l = c.loop-i in
-    let a = c.args in
-    let e : length a.owners.now ≤ l.i = omega (arith, l.invariant.whole) in
+    let l = c.loop-owner in
+    let e : length c.args.owners.now ≤ l.owner-index = omega arith in
     (l.invariant.owners_are ∙ owners_all _ _ _ e, l.invariant.counters_are ∙ counters_all _ _ _ _ _ e)

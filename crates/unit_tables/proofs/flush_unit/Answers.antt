@@ -5,7 +5,7 @@ pub returns-then-is_of : goal.returns-then-is_of
 returns-then-is_of c =
     let counted = c.before in
     let of = counted.before in
-    rw (← of.word32-owner.ensures, ← of.is_of.ensures, counted.if-is_of.true) (c.put32.ensures, counted.count_emptied.ensures)
+    rw (← of.is_of.ensures, counted.if-is_of.true) (refl, counted.count_emptied.ensures)
 
 pub returns-else-is_of : goal.returns-else-is_of
-returns-else-is_of c = rw (← c.word32-owner.ensures, ← c.is_of.ensures, c.if-is_of.false) (refl, refl)
+returns-else-is_of c = rw (← c.is_of.ensures, c.if-is_of.false) (refl, refl)

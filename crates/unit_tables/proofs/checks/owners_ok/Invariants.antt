@@ -1,12 +1,6 @@
-use mathlib.Core.Path.{◌≡◌}
-use Prim.Native.Nat.{◌-◌, ◌≤◌}
-use lib.ListN.{length, get_or}
+use lib.ListN.{get_or}
 use Rattle.unit_tables.specs.Seen.{SeenBelow}
 use Rattle.unit_tables.proofs.checks.owners_ok.Given as goal
 
-abbrev pub invariant-loop-i : goal.invariant-loop-i
-invariant-loop-i l =
-    ((l.i-end ≡ length l.owners) × (l.i ≤ l.i-end)) × SeenBelow l.nr l.nm l.na l.i (λ j. get_or l.owners j 0) l.seen
-
-abbrev pub decreases-loop-i : goal.decreases-loop-i
-decreases-loop-i l = l.i-end - l.i
+abbrev pub invariant-loop-owner : goal.invariant-loop-owner
+invariant-loop-owner l = SeenBelow l.nr l.nm l.na l.owner-index (λ j. get_or l.owners j 0) l.seen
