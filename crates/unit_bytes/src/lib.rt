@@ -13,7 +13,7 @@ ghost use Rattle.unit_tables.specs.View.{Limits, Identifiers, CountersOk};
 
 use monitor::counted_fill;
 use unit_tables::{emptied_counter, is_of, none_seen, owner_mcid, owner_word, seen_ok, with_owner};
-use words::{load32, put32, put64, word16, word32, word64};
+use words::{LittleEndian, put, word};
 
 // Whether every owner is well formed.
 pub fn owners_ok(owners: &[u8], nr: u32, nm: u32, na: u32) -> bool
@@ -22,7 +22,7 @@ pub fn owners_ok(owners: &[u8], nr: u32, nm: u32, na: u32) -> bool
 {
     let mut seen = none_seen();
     for i in 0..owners.len() / 4 {
-        let owner = load32(owners, i * 4) as u32;
+        let owner = u32::load(owners, i * 4);
         seen = with_owner(seen, owner, nr, nm, na);
     }
     seen_ok(seen, nr, nm, na)
@@ -33,8 +33,8 @@ fn count_emptied(counters: &mut [u8], events: &[u8], owner: u32)
     ensures { table_of 8 counters.new ≡ emptied 0 (table_of 2 events.now) evicted (table_of 8 counters.old) owner }
 {
     let i = owner_mcid(owner);
-    let counter = emptied_counter(owner, word64(counters, i), word16(events, i));
-    put64(counters, i, counter);
+    let counter = emptied_counter(owner, word(counters, i, 0), word(events, i, 0));
+    put(counters, i, counter);
 }
 
 // Counts a fill for its MCID.
@@ -43,8 +43,8 @@ fn count_filled(w: u64, counters: &mut [u8], events: &[u8], mcid: u64, at: u64)
     ensures { table_of 8 counters.new ≡ noted 0 (table_of 2 events.now) (filled w) (table_of 8 counters.old) mcid at }
 {
     let i = mcid as usize;
-    let counter = counted_fill(w, word64(counters, i), word16(events, i), at);
-    put64(counters, i, counter);
+    let counter = counted_fill(w, word(counters, i, 0), word(events, i, 0), at);
+    put(counters, i, counter);
 }
 
 // An eviction: the unit counts for its owner and becomes free.
@@ -52,8 +52,8 @@ pub fn evict(owners: &mut [u8], counters: &mut [u8], events: &[u8], unit: usize)
     ensures { (os ns es : List ℕ) → Holds 4 owners.old os → Holds 8 counters.old ns → Holds 2 events.now es
         → (owners.new ≡ bytes_of_all 4 (set os unit 0)) × (counters.new ≡ bytes_of_all 8 (emptied 0 es evicted ns (get_or os unit 0))) }
 {
-    count_emptied(counters, events, word32(owners, unit));
-    put32(owners, unit, 0);
+    count_emptied(counters, events, word(owners, unit, 0));
+    put(owners, unit, 0u32);
 }
 
 // An allowed fill: the unit counts for the owner it had, and then for its new one, which may have the same MCID.
@@ -71,10 +71,10 @@ pub fn fill(
     ensures { (os ns es : List ℕ) → Holds 4 owners.old os → Holds 8 counters.old ns → Holds 2 events.now es
         → (owners.new ≡ bytes_of_all 4 (set os unit (owner_word rcid mcid at))) × (counters.new ≡ bytes_of_all 8 (refilled 0 es (filled w) evicted ns (get_or os unit 0) mcid at)) }
 {
-    let old = word32(owners, unit);
+    let old = word(owners, unit, 0);
     count_emptied(counters, events, old);
     count_filled(w, counters, events, mcid, at);
-    put32(owners, unit, owner_word(rcid, mcid, at) as u64);
+    put(owners, unit, owner_word(rcid, mcid, at));
 }
 
 // An eviction where the RCID owns the unit.
@@ -83,10 +83,10 @@ fn flush_unit(owners: &mut [u8], counters: &mut [u8], events: &[u8], rcid: u64, 
         × (table_of 8 counters.new ≡ cond (of_rcid rcid (get_or (table_of 4 owners.old) unit 0))
         (emptied 0 (table_of 2 events.now) evicted (table_of 8 counters.old) (get_or (table_of 4 owners.old) unit 0)) (table_of 8 counters.old)) }
 {
-    let owner = word32(owners, unit);
+    let owner = word(owners, unit, 0);
     if is_of(owner, rcid) {
         count_emptied(counters, events, owner);
-        put32(owners, unit, 0);
+        put(owners, unit, 0u32);
     }
 }
 

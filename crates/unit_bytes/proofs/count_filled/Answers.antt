@@ -9,6 +9,6 @@ pub returns : goal.returns
 returns c =
     let counted = c.before in
     let a = counted.args in
-    filled_at (table_of 8 a.counters.now) (table_of 2 a.events.now) _ _ _ _ _ counted.word64.ensures counted.word16.ensures
-    (table_put 8 (lit< tt) _ _ a.counters.now _ (search rules) c.put64.ensures) a.w a.at
+    filled_at (table_of 8 a.counters.now) (table_of 2 a.events.now) _ _ _ _ _ counted.word.ensures counted.word-2.ensures
+    (table_put 8 (lit< tt) _ _ a.counters.now _ (search rules) c.put.ensures) a.w a.at
     counted.counted_fill-counter.ensures

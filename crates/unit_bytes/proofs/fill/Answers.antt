@@ -23,8 +23,8 @@ returns c =
     let filled = c.before in
     let emptied = filled.before in
     let a = emptied.args in (
-      left_held 4 (lit< tt) a.owners.now os _ _ ho (search rules) (λ j. (c.slice_known-5-1.given j).fits)
-          (rw (ho.words_are, ← c.owner_word.ensures) (table_put 4 (lit< tt) _ _ a.owners.now _ (search rules) c.put32.ensures)),
-      left_held 8 (lit< tt) a.counters.now ns _ _ hn (search rules) (λ j. (c.slice_known-4-1.given j).fits)
-          (rw (ho.words_are, hn.words_are, he.words_are, ← emptied.word32-old.ensures) (refilled_is a.w (table_of 8 a.counters.now) (table_of 2 a.events.now) _ _ _ _ _ emptied.count_emptied.ensures filled.count_filled.ensures)),
+      left_held 4 (lit< tt) a.owners.now os _ _ ho (search rules) (λ j. (c.type_inv.owners j).fits)
+          (rw (ho.words_are, ← c.owner_word.ensures) (table_put 4 (lit< tt) _ _ a.owners.now _ (search rules) c.put.ensures)),
+      left_held 8 (lit< tt) a.counters.now ns _ _ hn (search rules) (λ j. (c.type_inv.counters j).fits)
+          (rw (ho.words_are, hn.words_are, he.words_are, ← emptied.word-old.ensures) (refilled_is a.w (table_of 8 a.counters.now) (table_of 2 a.events.now) _ _ _ _ _ emptied.count_emptied.ensures filled.count_filled.ensures)),
     )

@@ -8,8 +8,8 @@ returns-then-is_of c =
     let counted = c.before in
     let of = counted.before in
     let a = of.args in
-    rw (← of.word32-owner.ensures, ← of.is_of.ensures, counted.if-is_of.true)
-    (table_put 4 (lit< tt) _ _ a.owners.now _ (lit< tt) c.put32.ensures, counted.count_emptied.ensures)
+    rw (← of.word-owner.ensures, ← of.is_of.ensures, counted.if-is_of.true)
+    (table_put 4 (lit< tt) _ _ a.owners.now _ (lit< tt) c.put.ensures, counted.count_emptied.ensures)
 
 pub returns-else-is_of : goal.returns-else-is_of
-returns-else-is_of c = rw (← c.word32-owner.ensures, ← c.is_of.ensures, c.if-is_of.false) (refl, refl)
+returns-else-is_of c = rw (← c.word-owner.ensures, ← c.is_of.ensures, c.if-is_of.false) (refl, refl)

@@ -15,7 +15,7 @@ pub loop-i-preserved : goal.loop-i-preserved
 loop-i-preserved c =
     let a = c.args in
     let l = c.loop-i in
-    ((l.invariant.0.0, omega arith), c.with_owner-seen.ensures l.i _ l.invariant.1 (entry_in 4 a.owners.now l.i _ (omega arith) c.load32-owner.ensures.0))
+    ((l.invariant.0.0, omega arith), c.with_owner-seen.ensures l.i _ l.invariant.1 (entry_in 4 a.owners.now l.i _ (omega arith) c.load-owner.ensures))
 
 pub returns : goal.returns
 returns c =
