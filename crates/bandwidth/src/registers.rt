@@ -12,8 +12,9 @@ use crate::Record;
 use access::{Refusal, check_read, check_write, part};
 use bandwidth_settings::{bw_word, write_alloc};
 use bandwidth_wellformed::Totals;
+use codes::Resource;
 use fields::BandwidthCapabilities;
-use monitor::{Registers, bandwidth_status, write_mon};
+use monitor::{Registers, mon_status, write_mon};
 
 impl Record {
     // What capabilities reads.
@@ -101,7 +102,7 @@ impl Record {
                     ctl: self.mon_ctl,
                     value: self.mon_ctr_val,
                 };
-                let status = bandwidth_status(setup.na, setup.nm, value);
+                let status = mon_status(Resource::Bandwidth, setup.na, setup.nm, value);
                 let done = write_mon(setup.na, status, old, counters, events, value);
                 self.mon_ctl = done.ctl;
                 self.mon_ctr_val = done.value;

@@ -5,8 +5,8 @@ ghost use Rattle.bandwidth_model.specs.Model.{step};
 ghost use Rattle.bandwidth.specs.View.{state, outcome, ack_of, reading_of};
 
 use crate::Record;
-use access::{Refusal, Verdict};
-use bandwidth_waiters::{need_of, put_word, wait_verdict};
+use access::Refusal;
+use bandwidth_waiters::{check_wait, need_of, put_word};
 use tables::{put, word};
 
 impl Record {
@@ -30,13 +30,9 @@ impl Record {
         self.check(active, configured, used, counters, events, waiters)?;
         let setup = self.setup;
         let i = rcid as usize;
-        match wait_verdict(setup, word(waiters, i, 0), rcid, mcid, bytes) {
-            Verdict::Failed(why) => Err(why),
-            Verdict::Passed => {
-                put(waiters, i, put_word(setup, mcid, at, kind, bytes));
-                Ok(())
-            }
-        }
+        check_wait(setup, word(waiters, i, 0), rcid, mcid, bytes)?;
+        put(waiters, i, put_word(setup, mcid, at, kind, bytes));
+        Ok(())
     }
 
     // What the request needs that waits under an RCID, 0 where none does.

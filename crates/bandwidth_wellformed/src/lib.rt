@@ -14,7 +14,7 @@ ghost use Rattle.bandwidth_wellformed.specs.Tables.{SummedTables, TablesChecked}
 use bandwidth_setup::Setup;
 use bandwidth_waiters::waiters_ok;
 use codes::Resource;
-use monitor::{bandwidth_counters_ok, events_ok};
+use monitor::{counters_ok, events_ok};
 pub use parts::{Span, span_at};
 pub use settings::{Sums, TableSums, add_sums, no_sums, sum_rows};
 use settings::{sum_tables, table_ok};
@@ -68,7 +68,7 @@ pub fn tables_ok(
         setup.na as u32,
         setup.q as u32,
     );
-    let k = bandwidth_counters_ok(counters, setup.w as u32);
+    let k = counters_ok(Resource::Bandwidth, counters, setup.w as u32);
     let e = events_ok(events, setup.na as u16, Resource::Bandwidth);
     let w = waiters_ok(setup, waiters);
     tables_by(setup, sums, k, e, w)

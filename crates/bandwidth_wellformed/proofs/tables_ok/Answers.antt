@@ -33,7 +33,7 @@ returns c =
       active_fits = λ i. (c.type_inv.active i).fits;
       configured_fits = λ i. (c.type_inv.configured i).fits;
       summed = c.sum_tables-sums.ensures;
-      counters_are = c.bandwidth_counters_ok-k.ensures;
+      counters_are = c.counters_ok-k.ensures;
       events_are = c.events_ok-e.ensures;
       waiters_are = c.waiters_ok-w.ensures;
     })
