@@ -1,9 +1,10 @@
 -- A word by the library's bytes of a number.
 use Rattle.std.proofs.Common.{◌≡◌, ℕ, zero, suc, ◌+◌, ◌-◌, ◌*◌, ◌/◌, ◌%◌, ◌^◌, ◌≤◌, ◌<◌, List, length, get_or, take, drop, refl, sym, ap, ◌∙◌, arith, length-drop}
-use Rattle.std.proofs.Math.Nat.{div-one, div-div-eq-div-mul, pow-succ', mul_comm, zero-add}
+use Rattle.std.proofs.Math.Nat.{div-one, div-div-eq-div-mul, pow-succ', mul_comm, zero-add, zero-mul, suc-mul, add_comm}
 use Rattle.std.proofs.Math.Numerals.{add-one}
 use Rattle.std.proofs.Math.Seq.{length-take-le, take_all, drop-drop}
 use Rattle.std.proofs.lemmas.List.{append_assoc}
+use Rattle.std.specs.Simd.{first_chunks}
 use Rattle.std.specs.Int.{byte_at, byte_worth, bytes_low_first, sum_through}
 use Rattle.tables.specs.Parts.{with_part}
 use Rattle.words.specs.Words.{word_of, bytes_of, stored}
@@ -41,3 +42,9 @@ put_bytes k at w bs new e =
     let low : new ≡ bytes_of k w = e ∙ low_first 0 k w ∙ rw div-one in
     let n : at + k - at ≡ k = omega arith in
     rw (low, n, drop-drop, append_assoc)
+
+-- chunk i of bytes
+pub chunk_at : (n k i : ℕ) (bs d : List ℕ) → i < k → get_or (first_chunks n k bs) i d ≡ take n (drop (i * n) bs)
+chunk_at n zero i bs d h = absurd (omega arith)
+chunk_at n (suc k) zero bs d h = rw zero-mul
+chunk_at n (suc k) (suc i) bs d h = chunk_at n k i (drop n bs) d (omega arith) ∙ rw (drop-drop, suc-mul, add_comm n)

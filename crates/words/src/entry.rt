@@ -47,8 +47,9 @@ pub fn union64(b: &[u8]) -> u64
     ensures { result ≡ union_below (length (table_of 8 b.now)) (λ i. get_or (table_of 8 b.now) i 0) }
 {
     let mut bits = 0u64;
-    for i in 0..b.len() / 8 {
-        bits = bits | load64(b, i * 8);
+    let (words, _) = b.as_chunks::<8>();
+    for word in words {
+        bits |= u64::from_le_bytes(*word);
     }
     bits
 }

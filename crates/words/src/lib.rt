@@ -148,12 +148,12 @@ pub fn encode64(words: &[u64], bytes: &mut [u8])
     }
 }
 
-// Stores a word as word i; a place outside changes nothing.
-pub fn put<W: LittleEndian>(bytes: &mut [u8], i: usize, word: W)
-    ensures { bytes.new ≡ with_word W.BYTES bytes.old i (W.number word) }
+// Stores w as word i; a place outside changes nothing.
+pub fn put<W: LittleEndian>(bytes: &mut [u8], i: usize, w: W)
+    ensures { bytes.new ≡ with_word W.BYTES bytes.old i (W.number w) }
 {
     if i < bytes.len() / W::BYTES {
-        word.store(bytes, i * W::BYTES);
+        w.store(bytes, i * W::BYTES);
     }
 }
 

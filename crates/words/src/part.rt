@@ -10,7 +10,8 @@ pub fn load_part<W: LittleEndian>(bytes: &[u8], from: usize, words: &mut [W])
     requires { (from + length words.old) * W.BYTES ≤ length bytes.now }
     ensures { W.numbers words.new ≡ part from (length words.old) (table_of W.BYTES bytes.now) }
 {
-    decode(&bytes[from * W::BYTES..], words);
+    let at = from * W::BYTES;
+    decode(&bytes[at..], words);
 }
 
 // Stores words as those from `from` on.

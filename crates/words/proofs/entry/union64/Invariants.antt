@@ -1,13 +1,7 @@
-use mathlib.Core.Path.{◌≡◌}
-use Prim.Native.Nat.{◌-◌, ◌/◌, ◌≤◌}
-use lib.ListN.{length, get_or}
+use Rattle.std.proofs.Common.{◌≡◌, get_or}
 use Rattle.tables.specs.View.{union_below}
 use Rattle.words.specs.Words.{table_of}
 use Rattle.words.proofs.entry.union64.Given as goal
 
-abbrev pub invariant-loop-i : goal.invariant-loop-i
-invariant-loop-i l =
-    ((l.i-end ≡ length l.b / 8) × (l.i ≤ l.i-end)) × (l.bits ≡ union_below l.i (λ k. get_or (table_of 8 l.b) k 0))
-
-abbrev pub decreases-loop-i : goal.decreases-loop-i
-decreases-loop-i l = l.i-end - l.i
+abbrev pub invariant-loop-word : goal.invariant-loop-word
+invariant-loop-word l = l.bits ≡ union_below l.word-index (λ k. get_or (table_of 8 l.b) k 0)
