@@ -1,18 +1,42 @@
 -- The identifiers that a word names, by the layout that the mode chooses.
-use mathlib.Core.Path.{◌≡◌, refl}
-use mathlib.Core.Bool.{true, false, cond}
+use mathlib.Core.Path.{◌≡◌, refl, sym, ap, ◌∙◌}
+use mathlib.Core.Bool.{Bool, true, false, not, ◌||◌, cond}
 use mathlib.Core.List.{◌∷◌, []}
+use mathlib.Core.Logic.{◌⊎◌, inl, inr}
 use Prim.Native.Nat.{ℕ}
+use lib.Dec.{eqb}
 use Rattle.tables.proofs.Tests.{cases}
 use Rattle.fields.specs.Layout.{unpack}
 use Rattle.fields.specs.Registers.{iommu_qosid, dc_ta}
-use Rattle.devices.specs.Devices.{uses_directory, identifiers_in, out_of_range}
+use Rattle.devices.specs.Devices.{uses_directory, mode_of, identifiers_in, out_of_range}
 use Rattle.devices.specs.declared.Identifiers.{Identifiers}
+use Rattle.devices.specs.declared.IommuMode.{IommuMode}
+use Rattle.devices.specs.declared.IommuMode.TheVariants.{Off, Bare, Directory}
 
 abbrev pub ids : ℕ → ℕ → Identifiers
 ids rcid mcid = record { rcid = rcid; mcid = mcid }
 
+has_directory : IommuMode → Bool
+has_directory Off = false
+has_directory Bare = false
+has_directory Directory = true
+
 module _ (mode : ℕ) where
+  uses_told : uses_directory mode ≡ has_directory (mode_of mode)
+  unfolding mode_of has_directory
+  uses_told = cases (λ b. not (b || eqb mode 1) ≡ has_directory (cond b Off (cond (eqb mode 1) Bare Directory))) (eqb mode 0) (λ t. refl)
+      (λ f. cases (λ b. not b ≡ has_directory (cond b Bare Directory)) (eqb mode 1) (λ t. refl) (λ f. refl))
+
+  -- by the mode that the number is
+  pub directory : {m : IommuMode} → m ≡ mode_of mode → m ≡ Directory → uses_directory mode ≡ true
+  unfolding has_directory
+  directory p q = uses_told ∙ ap has_directory (sym p ∙ q)
+
+  pub no_directory : {m : IommuMode} → m ≡ mode_of mode → (m ≡ Off) ⊎ (m ≡ Bare) → uses_directory mode ≡ false
+  unfolding has_directory
+  no_directory p (inl q) = uses_told ∙ ap has_directory (sym p ∙ q)
+  no_directory p (inr q) = uses_told ∙ ap has_directory (sym p ∙ q)
+
   pub in_context : (word rcid mcid : ℕ) → uses_directory mode ≡ true → mcid ∷ rcid ∷ [] ≡ unpack dc_ta word → ids rcid mcid ≡ identifiers_in mode word
   unfolding identifiers_in
   in_context word rcid mcid t e = rw t cc

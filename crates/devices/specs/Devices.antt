@@ -5,10 +5,16 @@ use Rattle.fields.specs.Registers.{qosid_rcid, qosid_mcid, ta_rcid, ta_mcid}
 use Rattle.access.specs.declared.Refusal.TheVariants.{Identifier, DeviceContext}
 use Rattle.access.specs.Refusals.{number_of}
 use Rattle.devices.specs.declared.Identifiers.{Identifiers}
+use Rattle.devices.specs.declared.IommuMode.{IommuMode}
+use Rattle.devices.specs.declared.IommuMode.TheVariants.{Off, Bare, Directory}
 
 -- mode 0 is off and 1 is bare; any other number is a device directory
 abbrev pub uses_directory : ℕ → Bool
 uses_directory mode = not (mode == 0 || mode == 1)
+
+-- so by name
+unfoldable pub mode_of : ℕ → IommuMode
+mode_of mode = if mode == 0 then Off else (if mode == 1 then Bare else Directory)
 
 -- the identifiers that a device's word names: with a directory it is DC.ta of the device context, else iommu_qosid; other bits are ignored
 unfoldable pub identifiers_in : ℕ → ℕ → Identifiers

@@ -3,7 +3,7 @@
 
 ghost use Rattle.std.specs.Prelude.{◌≡◌};
 ghost use Rattle.access.specs.Refusals.{number_of};
-ghost use Rattle.devices.specs.Devices.{uses_directory, identifiers_in, out_of_range};
+ghost use Rattle.devices.specs.Devices.{mode_of, identifiers_in, out_of_range};
 
 use access::Refusal;
 use fields::{DcTa, IommuQosid};
@@ -15,28 +15,50 @@ pub struct Identifiers {
     pub mcid: u64,
 }
 
-// Mode 0 is off and 1 is bare; any other number is a device directory.
-fn uses_directory(mode: u64) -> bool
-    ensures { result ≡ uses_directory mode }
-{
-    !((mode == 0) | (mode == 1))
+// What stands before the controller: an IOMMU that is off, one that passes requests on bare, or one with a device directory.
+#[derive(Clone, Copy)]
+pub enum IommuMode {
+    Off,
+    Bare,
+    Directory,
 }
 
-// Those that a device's word names.
+impl From<u64> for IommuMode {
+    ghost from_gives = { λ number mode. mode ≡ mode_of number };
+
+    // 0 is off and 1 is bare; any other number is a device directory.
+    #[tactic(auto, unfolding(crate::specs::Devices::mode_of))]
+    fn from(number: u64) -> IommuMode
+        ensures { result ≡ mode_of number }
+    {
+        if number == 0 {
+            IommuMode::Off
+        } else if number == 1 {
+            IommuMode::Bare
+        } else {
+            IommuMode::Directory
+        }
+    }
+}
+
+// Those that a device's word names: the device context's where there is a directory, else the register's.
 pub fn identifiers_in(mode: u64, word: u64) -> Identifiers
     ensures { result ≡ identifiers_in mode word }
 {
-    if uses_directory(mode) {
-        let ta = DcTa::unpack(word);
-        Identifiers {
-            rcid: ta.rcid,
-            mcid: ta.mcid,
+    match IommuMode::from(mode) {
+        IommuMode::Off | IommuMode::Bare => {
+            let qosid = IommuQosid::unpack(word);
+            Identifiers {
+                rcid: qosid.rcid,
+                mcid: qosid.mcid,
+            }
         }
-    } else {
-        let qosid = IommuQosid::unpack(word);
-        Identifiers {
-            rcid: qosid.rcid,
-            mcid: qosid.mcid,
+        IommuMode::Directory => {
+            let ta = DcTa::unpack(word);
+            Identifiers {
+                rcid: ta.rcid,
+                mcid: ta.mcid,
+            }
         }
     }
 }
@@ -45,9 +67,8 @@ pub fn identifiers_in(mode: u64, word: u64) -> Identifiers
 pub fn out_of_range(mode: u64) -> Refusal
     ensures { number_of result ≡ out_of_range mode }
 {
-    if uses_directory(mode) {
-        Refusal::DeviceContext
-    } else {
-        Refusal::Identifier
+    match IommuMode::from(mode) {
+        IommuMode::Off | IommuMode::Bare => Refusal::Identifier,
+        IommuMode::Directory => Refusal::DeviceContext,
     }
 }

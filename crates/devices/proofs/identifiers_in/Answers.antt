@@ -1,8 +1,8 @@
-use Rattle.devices.proofs.Laws.{in_context, in_register}
+use Rattle.devices.proofs.Laws.{directory, no_directory, in_context, in_register}
 use Rattle.devices.proofs.identifiers_in.Goals as goal
 
-pub returns-then-uses_directory : goal.returns-then-uses_directory
-returns-then-uses_directory c = in_context _ _ _ _ (cc) c.unpack-ta.ensures.is
+pub returns-in-Off : goal.returns-in-Off
+returns-in-Off c = in_register _ _ _ _ (no_directory _ c.from.ensures c.in-Off.is) c.unpack-qosid.ensures.is
 
-pub returns-else-uses_directory : goal.returns-else-uses_directory
-returns-else-uses_directory c = in_register _ _ _ _ (cc) c.unpack-qosid.ensures.is
+pub returns-in-Directory : goal.returns-in-Directory
+returns-in-Directory c = in_context _ _ _ _ (directory _ c.from.ensures c.in-Directory.is) c.unpack-ta.ensures.is

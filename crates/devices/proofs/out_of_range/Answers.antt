@@ -1,8 +1,8 @@
-use Rattle.devices.proofs.Laws.{context_refusal, register_refusal}
+use Rattle.devices.proofs.Laws.{directory, no_directory, context_refusal, register_refusal}
 use Rattle.devices.proofs.out_of_range.Goals as goal
 
-pub returns-then-uses_directory : goal.returns-then-uses_directory
-returns-then-uses_directory c = context_refusal _ (cc)
+pub returns-in-Off : goal.returns-in-Off
+returns-in-Off c = register_refusal _ (no_directory _ c.from.ensures c.in-Off.is)
 
-pub returns-else-uses_directory : goal.returns-else-uses_directory
-returns-else-uses_directory c = register_refusal _ (cc)
+pub returns-in-Directory : goal.returns-in-Directory
+returns-in-Directory c = context_refusal _ (directory _ c.from.ensures c.in-Directory.is)
