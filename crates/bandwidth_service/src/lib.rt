@@ -18,7 +18,7 @@ use bandwidth_waiters::{serve, served_word, share_weight};
 use fields::Waiter;
 use monitor_bytes::count_bytes;
 use tables::row_at;
-use words::{load_part32, put64, store_part32, word64};
+use words::{load_part, put, store_part, word};
 
 // The weight of a waiter by n words of its RCID from the word `from` on, with an array for them.
 fn weight_loaded(
@@ -33,7 +33,7 @@ fn weight_loaded(
     requires { Ranges (setup_of setup) × (((from + n) * 4 ≤ length active.now) × (length row.old ≡ n)) }
     ensures { Small (share_weight (setup_of setup) (held_word (part from n (table_of 4 active.now)) (holder_in (part from n (table_of 4 active.now)) at)) need) 255 result }
 {
-    load_part32(active, from, row);
+    load_part(active, from, row);
     share_weight(setup, row, at, need)
 }
 
@@ -42,7 +42,7 @@ fn weight_at(setup: Setup, active: &[u8], waiters: &[u8], rcid: usize) -> u64
     requires { Weighs (setup_of setup) active.now waiters.now × (rcid < setup.nr) }
     ensures { Small (weight_in (setup_of setup) (table_of 4 active.now) (table_of 8 waiters.now) rcid) 255 result }
 {
-    let word = word64(waiters, rcid);
+    let word = word(waiters, rcid, 0);
     if word == 0 {
         return 0;
     }
@@ -91,10 +91,10 @@ fn serve_loaded(
     requires { ServeFits (setup_of setup) active.now used.old from n pool size need × ((length row.old ≡ n) × (length spent.old ≡ n)) }
     ensures { Served (setup_of setup) active.now used.old from n pool size weights at need used.new result }
 {
-    load_part32(active, from, row);
-    load_part32(used, from, spent);
+    load_part(active, from, row);
+    load_part(used, from, spent);
     let given = serve(setup, row, spent, pool, size, weights, at, need);
-    store_part32(spent, used, from);
+    store_part(spent, used, from);
     given
 }
 
@@ -148,7 +148,7 @@ fn serve_at(
     ensures { Turned (turn (setup_of setup) (table_of 4 active.now) (table_of 2 events.now) size weights
         (tables_in used.old pool counters.old waiters.old) rcid) used.new result counters.new waiters.new }
 {
-    let word = word64(waiters, rcid);
+    let word = word(waiters, rcid, 0);
     if word == 0 {
         return pool;
     }
@@ -176,7 +176,7 @@ fn serve_at(
         waiter.write,
         sum,
     );
-    put64(waiters, rcid, served_word(word, sum));
+    put(waiters, rcid, served_word(word, sum));
     given.pool
 }
 
@@ -196,12 +196,10 @@ pub fn serve_all(
         (tables_in used.old 0 counters.old waiters.old) setup.nr) used.new result counters.new waiters.new }
 {
     let mut pool = 0u64;
-    let mut rcid: usize = 0;
-    while rcid < waiters.len() / 8 {
+    for rcid in 0..setup.nr as usize {
         pool = serve_at(
             setup, active, used, counters, events, waiters, size, weights, pool, rcid,
         );
-        rcid += 1;
     }
     pool
 }

@@ -10,7 +10,7 @@ use Rattle.bandwidth_service.proofs.Turns.{turned_none, turned_one}
 use Rattle.bandwidth_service.proofs.serve_at.Goals as goal
 
 pub returns-then-word-eq0 : goal.returns-then-word-eq0
-returns-then-word-eq0 c = turned_none c.requires c.args.weights (sym c.word64-word.ensures ∙ c.if-word-eq0.true)
+returns-then-word-eq0 c = turned_none c.requires c.args.weights (sym c.word-word.ensures ∙ c.if-word-eq0.true)
 
 pub serve_bytes-given-requires : goal.serve_bytes-given-requires
 unfolding pairs
@@ -32,9 +32,9 @@ pub returns : goal.returns
 unfolding need_of waiter_mcid waiter_at waiter_kind
 returns c =
     let is = c.unpack-waiter.ensures.is in
-    let word = c.word64-word.ensures in
+    let word = c.word-word.ensures in
     let g = c.serve_bytes-given in
     turned_one c.requires c.row_at-place.ensures c.args.weights (λ z. c.if-word-eq0.false (word ∙ z))
     (ap (λ (vs : List ℕ). get_or vs 3 0) is ∙ ap need_of word) (ap (λ (vs : List ℕ). get_or vs 2 0) is ∙ ap waiter_mcid word)
     (ap (λ (vs : List ℕ). get_or vs 1 0) is ∙ ap waiter_at word) (ap (λ (vs : List ℕ). get_or vs 0 0) is ∙ ap waiter_kind word)
-    g.ensures c.count_bytes.ensures c.put64.ensures (c.served_word.ensures ∙ ap (λ (n : ℕ). served_word n g.result.sum) word)
+    g.ensures c.count_bytes.ensures c.put.ensures (c.served_word.ensures ∙ ap (λ (n : ℕ). served_word n g.result.sum) word)

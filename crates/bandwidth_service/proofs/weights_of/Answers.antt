@@ -1,4 +1,4 @@
-use mathlib.Core.Path.{◌≡◌, sym, ap, ◌∙◌}
+use mathlib.Core.Path.{◌≡◌, refl, sym, ap, ◌∙◌}
 use native.Mathlib.Omega.{arith}
 use Rattle.words.specs.Words.{table_of}
 use Rattle.bandwidth_setup.specs.View.{setup_of}
@@ -7,7 +7,7 @@ use Rattle.bandwidth_waiters.proofs.Weights.{weights_start, weights_next}
 use Rattle.bandwidth_service.proofs.weights_of.Goals as goal
 
 pub loop-rcid-init : goal.loop-rcid-init
-loop-rcid-init c = (omega arith, (weights_start c.requires.opens, omega arith))
+loop-rcid-init c = (refl, (weights_start c.requires.opens, omega arith))
 
 pub weight_at-sum-requires : goal.weight_at-sum-requires
 weight_at-sum-requires c = (c.requires, omega (arith, c.requires.waiters_long))
@@ -16,7 +16,7 @@ pub loop-rcid-preserved : goal.loop-rcid-preserved
 loop-rcid-preserved c =
     let l = c.loop-rcid in
     let w = c.weight_at-sum.ensures in
-    (omega arith, (rw (l.invariant.1.0, w.is) (sym (weights_next c.requires.opens l.rcid)), omega (arith, l.invariant.1.1, w.small)))
+    (l.invariant.0, (rw (l.invariant.1.0, w.is) (sym (weights_next c.requires.opens l.rcid)), omega (arith, l.invariant.1.1, w.small)))
 
 pub returns : goal.returns
 returns c =
