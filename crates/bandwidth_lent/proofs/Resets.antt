@@ -7,6 +7,8 @@ use Rattle.tables.proofs.Tests.{is_true}
 use Rattle.tables.specs.Parts.{with_part}
 use Rattle.words.specs.Words.{bytes_of_all}
 use Rattle.words.proofs.Table.{zero_bytes}
+use Rattle.access.specs.Refusals.{number_of}
+use Rattle.access.specs.declared.Refusal.{Refusal}
 use Rattle.replies.specs.Replies.{reply}
 use Rattle.replies.proofs.Laws as laws
 use Rattle.bandwidth_setup.specs.View.{setup_of}
@@ -40,9 +42,9 @@ module _ (l : Lent) (setup : Setup) where
   abbrev su : rules.Setup
   su = setup_of setup
 
-  pub reset_refused : (n : ℕ) → n ≡ byte_refusal su l → (n ≡ 0 → ⊥) → reply n [] l ≡ step_bytes l (reset su)
+  pub reset_refused : (why : Refusal) → number_of why ≡ byte_refusal su l → reply (number_of why) [] l ≡ step_bytes l (reset su)
   unfolding pointers setup_for
-  reset_refused n e h = step_refused l (reset su) n e h
+  reset_refused why e = step_refused l (reset su) why e
 
   pub reset_done : byte_refusal su l ≡ 0 → (R A C U N E W : List ℕ) → R ≡ bytes_of_all 8 (words_in (fresh setup)) → Fresh su A C U N E W
       → reply 0 [] (lent R A C U N E W) ≡ step_bytes l (reset su)

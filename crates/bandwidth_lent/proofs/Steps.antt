@@ -3,8 +3,12 @@ use mathlib.Core.Path.{◌≡◌, refl, sym, ap, ◌∙◌}
 use mathlib.Core.Bool.{not}
 use mathlib.Core.List.{List}
 use Prim.Native.Nat.{ℕ}
+use native.Mathlib.Omega.{arith}
 use lib.Dec.{T}
 use Rattle.words.specs.Words.{words_of, bytes_of_all}
+use Rattle.access.specs.Refusals.{number_of}
+use Rattle.access.specs.declared.Refusal.{Refusal}
+use Rattle.access.proofs.Refusals.{number_pos}
 use Rattle.replies.specs.Replies.{refusal}
 use Rattle.replies.proofs.Laws as laws
 use Rattle.bandwidth_model.specs.Rules.{Setup}
@@ -31,12 +35,14 @@ by_record l (wait rcid mcid at kind bytes) t = refl
 by_record l (need rcid) t = refl
 
 module _ (l : Lent) (c : Call) where
-  pub step_refused : (n : ℕ) → n ≡ byte_refusal (setup_for l c) l → (n ≡ 0 → ⊥) → refusal n (pointers c) l ≡ step_bytes l c
-  step_refused = laws.step_refused step pointers reply_to (λ k d. byte_refusal (setup_for k d) k) state_of l c
+  pub step_refused : (why : Refusal) → number_of why ≡ byte_refusal (setup_for l c) l → refusal (number_of why) (pointers c) l ≡ step_bytes l c
+  step_refused why e =
+      let pos = number_pos why in
+      laws.step_refused step pointers reply_to (λ k d. byte_refusal (setup_for k d) k) state_of l c (number_of why) e (λ z. omega arith)
 
   -- a refusal of a call that goes by the record
-  pub refused_by : T (not (is_reset c)) → (n : ℕ) → n ≡ byte_refusal (state_of l).setup l → (n ≡ 0 → ⊥) → refusal n (pointers c) l ≡ step_bytes l c
-  refused_by t n e h = step_refused n (e ∙ ap (λ (su : Setup). byte_refusal su l) (sym (by_record l c t))) h
+  pub refused_by : T (not (is_reset c)) → (why : Refusal) → number_of why ≡ byte_refusal (state_of l).setup l → refusal (number_of why) (pointers c) l ≡ step_bytes l c
+  refused_by t why e = step_refused why (e ∙ ap (λ (su : Setup). byte_refusal su l) (sym (by_record l c t)))
 
 -- ---- by the model's step
 

@@ -1,6 +1,8 @@
 -- Lent bytes as a call finds and leaves them, and what checks 1 to 3 find of them.
-use Rattle.std.specs.Prelude.{◌≡◌, not, List, [], ℕ, ◌+◌, ◌*◌, ◌≤◌, T, length, replicate}
+use Rattle.std.specs.Prelude.{◌≡◌, not, Result, Ok, Err, List, [], ℕ, ◌+◌, ◌*◌, ◌≤◌, T, length, replicate}
 use Rattle.words.specs.Words.{words_of, bytes_of_all, table_of, Holds}
+use Rattle.access.specs.Refusals.{number_of}
+use Rattle.access.specs.declared.Refusal.{Refusal}
 use Rattle.replies.specs.Replies.{refusal}
 use Rattle.bandwidth_setup.specs.View.{setup_of}
 use Rattle.bandwidth_model.specs.Rules.{Setup, pairs, reset_table}
@@ -12,8 +14,6 @@ use Rattle.bandwidth.specs.View.{state}
 use Rattle.bandwidth.specs.Checked.{Passes}
 use Rattle.bandwidth_lent.specs.Bytes.{Lent, record_length, record_of, state_of, pointers, byte_refusal, step_bytes}
 use Rattle.bandwidth_lent.specs.declared.check.Held.{Held}
-use Rattle.bandwidth_lent.specs.declared.check.Check.{Check}
-use Rattle.bandwidth_lent.specs.declared.check.Check.TheVariants.{Passed, Failed}
 
 -- the words of the code's record
 abbrev pub words_in : Record → List ℕ
@@ -65,9 +65,9 @@ pub record Passing (l : Lent) (h : Held) : Type 0 where
   pub passes : Passes (state_in l h.«record») h.totals
 
 -- what they find; where one fails, every call but a reset is refused by it
-abbrev pub Checked : Lent → Check → Type 0
-Checked l (Passed h) = Passing l h
-Checked l (Failed n) = (c : Call) → T (not (is_reset c)) → refusal n (pointers c) l ≡ step_bytes l c
+abbrev pub Checked : Lent → Result Held Refusal → Type 0
+Checked l (Ok h) = Passing l h
+Checked l (Err why) = (c : Call) → T (not (is_reset c)) → refusal (number_of why) (pointers c) l ≡ step_bytes l c
 
 -- ---- parts of the tables
 

@@ -2,10 +2,10 @@
 ghost use Rattle.bandwidth_lent.specs.Bytes.{lent};
 ghost use Rattle.bandwidth_lent.specs.View.{Checked};
 
-use crate::lent::record_refusal;
-use crate::record::load_record;
+use crate::lent::load_lent;
 use crate::sums::sum_bytes;
 use crate::waiters::waiters_ok;
+use access::Refusal;
 use bandwidth::{Record, Totals};
 use bandwidth_wellformed::tables_by;
 use codes::Resource;
@@ -18,13 +18,7 @@ pub struct Held {
     pub totals: Totals,
 }
 
-// What checks 1 to 3 find: the refusal's number, or what a call goes on from.
-#[derive(Clone, Copy)]
-pub enum Check {
-    Passed(Held),
-    Failed(u64),
-}
-
+// What a call goes on from, where checks 1 to 3 pass.
 pub fn checked(
     record: &[u8],
     active: &[u8],
@@ -33,14 +27,10 @@ pub fn checked(
     counters: &[u8],
     events: &[u8],
     waiters: &[u8],
-) -> Check
+) -> Result<Held, Refusal>
     ensures { Checked (lent «record».now active.now configured.now used.now counters.now events.now waiters.now) result }
 {
-    let why = record_refusal(record, active, configured, used, counters, events, waiters);
-    if why != 0 {
-        return Check::Failed(why);
-    }
-    let given = load_record(record);
+    let given = load_lent(record, active, configured, used, counters, events, waiters)?;
     let setup = given.setup;
     let sums = sum_bytes(
         active,
@@ -54,16 +44,9 @@ pub fn checked(
     let e = events_ok(events, setup.na as u16, Resource::Bandwidth);
     let w = waiters_ok(setup, waiters);
     let tables = tables_by(setup, sums, k, e, w);
-    if given.state_ok(tables) {
-        let totals = Totals {
-            active: tables.active,
-            configured: tables.configured,
-        };
-        Check::Passed(Held {
-            record: given,
-            totals,
-        })
-    } else {
-        Check::Failed(3)
-    }
+    let totals = given.state_ok(tables).ok_or(Refusal::State)?;
+    Ok(Held {
+        record: given,
+        totals,
+    })
 }

@@ -8,5 +8,5 @@ pub mod reset;
 mod sums;
 mod waiters;
 
-pub use check::{Check, Held, checked};
+pub use check::{Held, checked};
 pub use record::store_record;

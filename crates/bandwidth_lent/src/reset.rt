@@ -2,6 +2,7 @@
 ghost use Rattle.std.specs.Prelude.{◌≡◌, [], ◌*◌, length};
 ghost use Rattle.bandwidth_setup.specs.View.{setup_of};
 ghost use Rattle.words.specs.Words.{bytes_of_all};
+ghost use Rattle.access.specs.View.{refusal_in};
 ghost use Rattle.replies.specs.Replies.{reply};
 ghost use Rattle.bandwidth_model.specs.Rules.{pairs, reset_table};
 ghost use Rattle.bandwidth_model.specs.View.{Ranges};
@@ -9,11 +10,12 @@ ghost use Rattle.bandwidth_model.specs.Calls.{reset};
 ghost use Rattle.bandwidth_lent.specs.Bytes.{lent, step_bytes};
 ghost use Rattle.bandwidth_lent.specs.View.{Tables, Fresh};
 
-use crate::lent::byte_refusal;
+use crate::lent::check_lengths;
 use crate::record::store_record;
+use access::Refusal;
 use bandwidth::{Record, reset_row};
 use bandwidth_setup::Setup;
-use words::{clear8, store_part32};
+use words::store_part32;
 
 // The settings of a reset, with the words of RCID 0 set out in `row`.
 fn fill_table(setup: Setup, table: &mut [u8], row: &mut [u32])
@@ -21,7 +23,7 @@ fn fill_table(setup: Setup, table: &mut [u8], row: &mut [u32])
     ensures { table.new ≡ bytes_of_all 4 (reset_table (setup_of setup)) }
 {
     reset_row(setup, row);
-    clear8(table);
+    table.fill(0);
     store_part32(row, table, 0);
 }
 
@@ -49,10 +51,10 @@ fn reset_tables(
 {
     reset_table(setup, active);
     reset_table(setup, configured);
-    clear8(used);
-    clear8(counters);
-    clear8(events);
-    clear8(waiters);
+    used.fill(0);
+    counters.fill(0);
+    events.fill(0);
+    waiters.fill(0);
 }
 
 pub fn reset(
@@ -64,15 +66,12 @@ pub fn reset(
     events: &mut [u8],
     waiters: &mut [u8],
     setup: Setup,
-) -> u64
-    ensures { reply result [] (lent «record».new active.new configured.new used.new counters.new events.new waiters.new) ≡ step_bytes (lent «record».old active.old configured.old used.old counters.old events.old waiters.old) (reset (setup_of setup)) }
+) -> Result<(), Refusal>
+    ensures { reply (refusal_in result) [] (lent «record».new active.new configured.new used.new counters.new events.new waiters.new) ≡ step_bytes (lent «record».old active.old configured.old used.old counters.old events.old waiters.old) (reset (setup_of setup)) }
 {
-    let number = byte_refusal(
+    check_lengths(
         setup, record, active, configured, used, counters, events, waiters,
-    );
-    if number != 0 {
-        return number;
-    }
+    )?;
     let fresh = Record {
         setup,
         mon_ctl: 0,
@@ -83,5 +82,5 @@ pub fn reset(
     };
     store_record(fresh, record);
     reset_tables(setup, active, configured, used, counters, events, waiters);
-    0
+    Ok(())
 }

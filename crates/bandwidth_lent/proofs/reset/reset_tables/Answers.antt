@@ -16,8 +16,8 @@ returns c =
     record {
       active_is = c.reset_table.ensures;
       configured_is = c.reset_table-2.ensures;
-      used_is = zeros 4 _ c.args.used.now c.clear8.ensures l.used_long;
-      counters_are = zeros 8 _ c.args.counters.now c.clear8-2.ensures l.counters_long;
-      events_are = zeros 2 _ c.args.events.now c.clear8-3.ensures l.events_long;
-      waiters_are = zeros 8 _ c.args.waiters.now c.clear8-4.ensures l.waiters_long;
+      used_is = zeros 4 _ c.args.used.now (c.fill.ensures.after (λ n e. e)) l.used_long;
+      counters_are = zeros 8 _ c.args.counters.now (c.fill-2.ensures.after (λ n e. e)) l.counters_long;
+      events_are = zeros 2 _ c.args.events.now (c.fill-3.ensures.after (λ n e. e)) l.events_long;
+      waiters_are = zeros 8 _ c.args.waiters.now (c.fill-4.ensures.after (λ n e. e)) l.waiters_long;
     }

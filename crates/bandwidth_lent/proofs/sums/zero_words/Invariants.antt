@@ -1,4 +1,3 @@
-use Prim.Native.Nat.{◌-◌, ◌≤◌}
 use lib.ListN.{get_or}
 use Rattle.tables.specs.Parts.{part}
 use Rattle.words.specs.Words.{table_of}
@@ -6,7 +5,4 @@ use Rattle.bandwidth_wellformed.specs.Bits.{AtMost}
 use Rattle.bandwidth_lent.proofs.sums.zero_words.Given as goal
 
 abbrev pub invariant-loop-i : goal.invariant-loop-i
-invariant-loop-i l = (l.i ≤ l.n) × AtMost (λ k. get_or (part l.from l.n (table_of 4 l.b)) k 0) l.i l.bits
-
-abbrev pub decreases-loop-i : goal.decreases-loop-i
-decreases-loop-i l = l.n - l.i
+invariant-loop-i l = AtMost (λ k. get_or (part l.from l.n (table_of 4 l.b)) k 0) l.i l.bits

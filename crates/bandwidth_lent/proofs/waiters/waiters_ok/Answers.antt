@@ -1,4 +1,4 @@
-use mathlib.Core.Path.{◌≡◌, sym, ap, ◌∙◌}
+use mathlib.Core.Path.{◌≡◌, refl, sym, ap, ◌∙◌}
 use Prim.Native.Nat.{ℕ}
 use native.Mathlib.Omega.{arith}
 use lib.Dec.{eqb}
@@ -15,11 +15,11 @@ pub returns-then-union64-eq0 : goal.returns-then-union64-eq0
 returns-then-union64-eq0 c = none_waits (setup_of c.args.setup) (table_of 8 c.args.t.now) (sym c.union64.ensures ∙ c.if-union64-eq0.true)
 
 pub loop-i-init : goal.loop-i-init
-loop-i-init c = (omega arith, sym (union_none _))
+loop-i-init c = (refl, sym (union_none _))
 
 pub loop-i-preserved : goal.loop-i-preserved
 unfolding bad_at
-loop-i-preserved c = (omega arith, rw union_next (cc))
+loop-i-preserved c = (c.loop-i.invariant.0, rw union_next (cc))
 
 pub returns : goal.returns
 returns c =

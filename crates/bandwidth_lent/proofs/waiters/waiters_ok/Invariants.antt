@@ -1,5 +1,5 @@
 use mathlib.Core.Path.{◌≡◌}
-use Prim.Native.Nat.{◌-◌, ◌/◌, ◌≤◌}
+use Prim.Native.Nat.{◌/◌}
 use lib.ListN.{length}
 use Rattle.tables.specs.View.{union_below}
 use Rattle.words.specs.Words.{table_of}
@@ -9,7 +9,4 @@ use Rattle.bandwidth_lent.proofs.waiters.waiters_ok.Given as goal
 
 abbrev pub invariant-loop-i : goal.invariant-loop-i
 invariant-loop-i l =
-    ((l.i-end ≡ length l.t / 8) × (l.i ≤ l.i-end)) × (l.bits ≡ union_below l.i (bad_at (setup_of l.setup) (table_of 8 l.t)))
-
-abbrev pub decreases-loop-i : goal.decreases-loop-i
-decreases-loop-i l = l.i-end - l.i
+    (l.i-end ≡ length l.t / 8) × (l.bits ≡ union_below l.i (bad_at (setup_of l.setup) (table_of 8 l.t)))

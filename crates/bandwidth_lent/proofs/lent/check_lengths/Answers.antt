@@ -1,4 +1,5 @@
-use mathlib.Core.Path.{sym, ◌∙◌}
+use mathlib.Core.Path.{sym, ap, ◌∙◌}
+use mathlib.Core.Bool.{Bool, cond}
 use native.Mathlib.Omega.{arith}
 use Rattle.tables.proofs.Tests.{of_true}
 use Rattle.bandwidth_model.specs.View.{Ranges}
@@ -6,7 +7,7 @@ use Rattle.bandwidth_model.proofs.Setup.{ranges}
 use Rattle.bandwidth_setup.specs.View.{setup_of}
 use Rattle.bandwidth_lent.specs.Bytes.{bytes_fit}
 use Rattle.bandwidth_lent.proofs.Lengths.{wrong_record, wrong_setup, wrong_lengths}
-use Rattle.bandwidth_lent.proofs.lent.byte_refusal.Goals as goal
+use Rattle.bandwidth_lent.proofs.lent.check_lengths.Goals as goal
 
 pub returns-then-record-ne96 : goal.returns-then-record-ne96
 returns-then-record-ne96 c = wrong_record _ _ c.if-record-ne96.true
@@ -23,10 +24,17 @@ overflow_mul-fit-then-in_range c = let r : Ranges (setup_of _) = ranges _ (of_tr
 pub overflow_mul-fit-then-in_range-2 : goal.overflow_mul-fit-then-in_range-2
 overflow_mul-fit-then-in_range-2 c = let r : Ranges (setup_of _) = ranges _ (of_true (sym c.in_range.ensures ∙ c.if-in_range.true)) in record { fits = omega (arith, r.nr_high) }
 
-pub returns-then-in_range : goal.returns-then-in_range
+pub returns-then-fit : goal.returns-then-fit
 unfolding bytes_fit
-returns-then-in_range c =
-    c.pick.ensures ∙ rw c.pairs.ensures.is (wrong_lengths _ _ c.if-record-ne96.false (sym c.in_range.ensures ∙ c.if-in_range.true))
+returns-then-fit c =
+    ap (λ (b : Bool). cond b 0 2) (sym c.if-fit.true)
+    ∙ rw c.pairs.ensures.is (wrong_lengths _ _ c.if-record-ne96.false (sym c.in_range.ensures ∙ c.if-in_range.true))
+
+pub returns-else-fit : goal.returns-else-fit
+unfolding bytes_fit
+returns-else-fit c =
+    ap (λ (b : Bool). cond b 0 2) (sym c.if-fit.false)
+    ∙ rw c.pairs.ensures.is (wrong_lengths _ _ c.if-record-ne96.false (sym c.in_range.ensures ∙ c.if-in_range.true))
 
 pub returns-else-in_range : goal.returns-else-in_range
 returns-else-in_range c = wrong_setup _ _ c.if-record-ne96.false (sym c.in_range.ensures ∙ c.if-in_range.false)
