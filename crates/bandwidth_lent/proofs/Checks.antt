@@ -1,6 +1,7 @@
 -- Check 3 on bytes, by the record and the sums of the tables' words.
-use mathlib.Core.Path.{◌≡◌, refl, sym, ap, ◌∙◌}
-use mathlib.Core.Bool.{Bool, true, false, not}
+use Rattle.std.specs.Prelude.{Option, Some, None, Result, Ok, Err, ok_or}
+use mathlib.Core.Path.{◌≡◌, refl, sym, ap, subst}
+use mathlib.Core.Bool.{Bool, not}
 use mathlib.Core.List.{List}
 use Prim.Native.Nat.{ℕ, ◌*◌, ◌<◌}
 use native.Mathlib.Nat.{mul-le-mul}
@@ -9,18 +10,19 @@ use lib.Dec.{T, lit<}
 use lib.ListN.{length, get_or}
 use Rattle.fields.specs.Registers as reg
 use Rattle.tables.specs.Below.{all_below}
-use Rattle.tables.proofs.Tests.{of_true, of_false}
 use Rattle.words.specs.Words.{words_of, table_of}
 use Rattle.words.proofs.Held.{held}
 use Rattle.words.proofs.Parts.{table_held, table_below}
 use Rattle.access.proofs.Checks.{check_3}
+use Rattle.access.specs.Refusals.{number_of}
+use Rattle.access.specs.declared.Refusal.{Refusal}
 use Rattle.access.specs.declared.Refusal.TheVariants as why
 use Rattle.monitor.specs.Monitor.{counter_ok, setting_ok}
 use Rattle.codes.specs.declared.Resource.TheVariants.{Bandwidth}
 use Rattle.replies.specs.Replies.{refusal}
 use Rattle.bandwidth_setup.specs.View.{setup_of}
 use Rattle.bandwidth_wellformed.specs.Tables.{TablesChecked, Rows, Summed, SummedTables}
-use Rattle.bandwidth_wellformed.specs.declared.TablesOk.{TablesOk}
+use Rattle.bandwidth_wellformed.specs.declared.Totals.{Totals}
 use Rattle.bandwidth_wellformed.specs.declared.settings.Sums.{Sums}
 use Rattle.bandwidth_model.specs.Rules.{Setup, setup_ok, pairs}
 use Rattle.bandwidth_model.specs.Calls.{Call, refused}
@@ -30,8 +32,9 @@ use Rattle.bandwidth_model.specs.Waiters.{waiter_ok}
 use Rattle.bandwidth_model.specs.Model.{State, lengths_ok, well_formed}
 use Rattle.bandwidth_model.proofs.Setup.{setup_ok_lem}
 use Rattle.bandwidth.specs.declared.Record.{Record}
-use Rattle.bandwidth.specs.View.{outcome}
-use Rattle.bandwidth.proofs.Checks.{lengths_ok_lem, totals_by}
+use Rattle.bandwidth.specs.View.{state, outcome}
+use Rattle.bandwidth.specs.Checked.{StateChecked}
+use Rattle.bandwidth.proofs.Checks.{lengths_ok_lem}
 use Rattle.bandwidth.proofs.Calls.{call_failed}
 use Rattle.bandwidth_lent.specs.Bytes.{Lent, state_of, pointers, byte_refusal, step_bytes}
 use Rattle.bandwidth_lent.specs.View.{words_in, state_in, Long, Words, Passing, PartIn}
@@ -76,7 +79,7 @@ module _ (l : Lent) (r : Record) (w : words_in r ≡ words_of 8 12 l.«record»)
       )
 
   -- all that check 3 finds of the tables
-  pub tables_summed : {sums : Sums} {k e v : Bool} → Bytes l.active → Bytes l.configured
+  tables_summed : {sums : Sums} {k e v : Bool} → Bytes l.active → Bytes l.configured
       → Summed su.na su.q (table_of 4 l.active) (table_of 4 l.configured) (table_of 4 l.used) su.nr sums
       → k ≡ all_below (length (table_of 8 l.counters)) (λ i. counter_ok reg.bandwidth_counter reg.bandwidth_ctr su.w (get_or (table_of 8 l.counters) i 0))
       → e ≡ all_below (length (table_of 2 l.events)) (λ i. setting_ok su.na Bandwidth (get_or (table_of 2 l.events) i 0))
@@ -92,7 +95,7 @@ module _ (l : Lent) (r : Record) (w : words_in r ≡ words_of 8 12 l.«record»)
     waiters_are = v;
   }
 
-  pub words_held : Bytes l.«record» → Bytes l.active → Bytes l.configured → Bytes l.used → Bytes l.counters → Bytes l.events → Bytes l.waiters → Words l r
+  words_held : Bytes l.«record» → Bytes l.active → Bytes l.configured → Bytes l.used → Bytes l.counters → Bytes l.events → Bytes l.waiters → Words l r
   words_held b a c u n e v =
       let g = held_long.tables in
       record {
@@ -105,27 +108,35 @@ module _ (l : Lent) (r : Record) (w : words_in r ≡ words_of 8 12 l.«record»)
         waiters = table_held 8 _ l.waiters (lit< tt) g.waiters_long v;
       }
 
-  module _ {t : TablesOk} {ok : Bool}
-      (c : TablesChecked su (table_of 4 l.active) (table_of 4 l.configured) (table_of 4 l.used) (table_of 8 l.counters) (table_of 2 l.events) (table_of 8 l.waiters) t)
-      (is : ok ≡ well_formed (state_in l r)) where
-    pub check_passed : ok ≡ true → Words l r → Passing l (record { «record» = r; totals = record { active = t.active; configured = t.configured } })
-    check_passed e h =
-        let formed = of_true (sym is ∙ e) in
-        record {
-          record_is = w;
-          words = h;
-          long = held_long;
-          none = z;
-          passes = record {
-            ranges = held_ranges;
-            sized = words_sized su l held_long;
-            wellformed = formed;
-            totals = totals_by _ c formed;
-          };
-        }
+  -- what checks 1 to 3 find, by what check 3 finds
+  abbrev Found : Result Totals Refusal → Type 0
+  Found (Ok t) = Passing l (record { «record» = r; totals = t })
+  Found (Err why) = (d : Call) → T (not (is_reset d)) → refusal (number_of why) (pointers d) l ≡ step_bytes l d
 
-    pub check_failed : ok ≡ false → (d : Call) → T (not (is_reset d)) → refusal 3 (pointers d) l ≡ step_bytes l d
-    check_failed e d n =
-        answered l r w z d n (outcome (refused 3) (state_in l r))
-        (call_failed (state_in l r) d n why.State
-        (check_3 (setup_ok su) (lengths_ok su (state_in l r)) (well_formed (state_in l r)) (setup_ok_lem su held_ranges) (lengths_ok_lem su (state_in l r) (words_sized su l held_long)) (of_false (sym is ∙ e)))) _ refl
+  found : Words l r → (o : Option Totals) → StateChecked (state_in l r) o → (x : Result Totals Refusal) → x ≡ ok_or o why.State → Found x
+  found h (Some t) f x e =
+      subst Found (sym e)
+      (record {
+        record_is = w;
+        words = h;
+        long = held_long;
+        none = z;
+        passes = record { ranges = held_ranges; sized = words_sized su l held_long; wellformed = f.0; totals = f.1 };
+      })
+  found h None f x e =
+      subst Found (sym e)
+      (λ d n. answered l r w z d n (outcome (refused 3) (state_in l r))
+      (call_failed (state_in l r) d n why.State
+      (check_3 (setup_ok su) (lengths_ok su (state_in l r)) (well_formed (state_in l r)) (setup_ok_lem su held_ranges) (lengths_ok_lem su (state_in l r) (words_sized su l held_long)) f)) _ refl)
+
+  pub found_by : {sums : Sums} {k e v : Bool} {x : Result Totals Refusal} (t o : Option Totals)
+      → Bytes l.«record» → Bytes l.active → Bytes l.configured → Bytes l.used → Bytes l.counters → Bytes l.events → Bytes l.waiters
+      → Summed su.na su.q (table_of 4 l.active) (table_of 4 l.configured) (table_of 4 l.used) su.nr sums
+      → k ≡ all_below (length (table_of 8 l.counters)) (λ i. counter_ok reg.bandwidth_counter reg.bandwidth_ctr su.w (get_or (table_of 8 l.counters) i 0))
+      → e ≡ all_below (length (table_of 2 l.events)) (λ i. setting_ok su.na Bandwidth (get_or (table_of 2 l.events) i 0))
+      → v ≡ all_below (length (table_of 8 l.waiters)) (λ i. waiter_ok su (get_or (table_of 8 l.waiters) i 0))
+      → ((a c u n e' w' : List ℕ) → SummedTables su a c u n e' w' sums k e v → TablesChecked su a c u n e' w' t)
+      → ((a c u n e' w' : List ℕ) → TablesChecked su a c u n e' w' t → StateChecked (state r a c u n e' w') o)
+      → x ≡ ok_or o why.State → Found x
+  found_by t o b a c u n i y s k e v tables check q =
+      found (words_held b a c u n i y) _ (check _ _ _ _ _ _ (tables _ _ _ _ _ _ (tables_summed a c s k e v))) _ q

@@ -1,6 +1,7 @@
 -- Checks 1 and 2 on bytes, both ways.
-use mathlib.Core.Path.{◌≡◌, refl}
-use mathlib.Core.Bool.{true, false, cond}
+use mathlib.Core.Path.{◌≡◌, refl, sym, ap, ◌∙◌}
+use mathlib.Core.Bool.{Bool, true, false, cond, ◌&&◌}
+use Prim.Native.Nat.{ℕ, ◌*◌}
 use borrow.Author.Tests.{eq-eqb, ne_eqb}
 use lib.Dec.{eqb, eqb→eq, lit<}
 use lib.ListN.{length}
@@ -25,8 +26,16 @@ module _ (su : Setup) (l : Lent) where
   pub wrong_setup : length l.«record» ≡ record_length → setup_ok su ≡ false → 1 ≡ byte_refusal su l
   wrong_setup e t = rw (refusal_is, eq-eqb (length l.«record») record_length e, t) refl
 
-  pub wrong_lengths : length l.«record» ≡ record_length → setup_ok su ≡ true → cond (bytes_fit su l) 0 2 ≡ byte_refusal su l
+  wrong_lengths : length l.«record» ≡ record_length → setup_ok su ≡ true → cond (bytes_fit su l) 0 2 ≡ byte_refusal su l
   wrong_lengths e t = rw (refusal_is, eq-eqb (length l.«record») record_length e, t) refl
+
+  -- the test of the lengths, with the pairs counted before
+  pub judged : {n : ℕ} {b : Bool} → length l.«record» ≡ record_length → setup_ok su ≡ true → n ≡ pairs su
+      → (eqb (length l.active) (n * 4) && eqb (length l.configured) (n * 4) && eqb (length l.used) (n * 4)
+      && eqb (length l.counters) (su.nm * 8) && eqb (length l.events) (su.nm * 2) && eqb (length l.waiters) (su.nr * 8)) ≡ b
+      → cond b 0 2 ≡ byte_refusal su l
+  unfolding bytes_fit
+  judged e t p q = ap (λ (x : Bool). cond x 0 2) (sym q) ∙ rw p (wrong_lengths e t)
 
   -- where they pass, the tables have their lengths
   pub long : byte_refusal su l ≡ 0 → Long su l

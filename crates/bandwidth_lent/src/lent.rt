@@ -56,19 +56,20 @@ pub fn load_lent(
     ensures refusal { refusal_in result ≡ byte_refusal (state_of (lent «record».now active.now configured.now used.now counters.now events.now waiters.now)).setup (lent «record».now active.now configured.now used.now counters.now events.now waiters.now) }
     ensures loaded { IfOk result (λ given. words_in given ≡ words_of 8 12 «record».now) }
 {
-    if record.len() != 96 {
-        return Err(Refusal::Setup);
+    if record.len() == 96 {
+        let given = load_record(record);
+        check_lengths(
+            given.setup,
+            record,
+            active,
+            configured,
+            used,
+            counters,
+            events,
+            waiters,
+        )?;
+        Ok(given)
+    } else {
+        Err(Refusal::Setup)
     }
-    let given = load_record(record);
-    check_lengths(
-        given.setup,
-        record,
-        active,
-        configured,
-        used,
-        counters,
-        events,
-        waiters,
-    )?;
-    Ok(given)
 }

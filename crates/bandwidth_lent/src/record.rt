@@ -5,14 +5,14 @@ ghost use Rattle.bandwidth_lent.specs.View.{words_in};
 
 use bandwidth::Record;
 use bandwidth_setup::Setup;
-use words::{decode64, encode64};
+use words::{decode, encode};
 
 pub fn load_record(bytes: &[u8]) -> Record
     requires { length bytes.now ≡ 96 }
     ensures { words_in result ≡ words_of 8 12 bytes.now }
 {
     let mut w = [0u64; 12];
-    decode64(bytes, &mut w);
+    decode(bytes, &mut w);
     let setup = Setup {
         nbwblks: w[0],
         mrbwb: w[1],
@@ -51,5 +51,5 @@ pub fn store_record(record: Record, bytes: &mut [u8])
         record.bw_alloc,
         record.pool,
     ];
-    encode64(&w, bytes);
+    encode(&w, bytes);
 }

@@ -15,7 +15,7 @@ use crate::record::store_record;
 use access::Refusal;
 use bandwidth::{Record, reset_row};
 use bandwidth_setup::Setup;
-use words::store_part32;
+use words::store_part;
 
 // The settings of a reset, with the words of RCID 0 set out in `row`.
 fn fill_table(setup: Setup, table: &mut [u8], row: &mut [u32])
@@ -24,7 +24,7 @@ fn fill_table(setup: Setup, table: &mut [u8], row: &mut [u32])
 {
     reset_row(setup, row);
     table.fill(0);
-    store_part32(row, table, 0);
+    store_part(row, table, 0);
 }
 
 fn reset_table(setup: Setup, table: &mut [u8])
@@ -72,15 +72,7 @@ pub fn reset(
     check_lengths(
         setup, record, active, configured, used, counters, events, waiters,
     )?;
-    let fresh = Record {
-        setup,
-        mon_ctl: 0,
-        mon_ctr_val: 0,
-        alloc_ctl: 0,
-        bw_alloc: 0,
-        pool: 0,
-    };
-    store_record(fresh, record);
+    store_record(Record::fresh(setup), record);
     reset_tables(setup, active, configured, used, counters, events, waiters);
     Ok(())
 }

@@ -7,7 +7,7 @@ ghost use Rattle.bandwidth_wellformed.specs.Tables.{Rows, Zeros, Summed};
 ghost use Rattle.bandwidth_lent.specs.View.{PartIn, Loads};
 
 use bandwidth_wellformed::{Sums, add_sums, no_sums, span_at, sum_rows};
-use words::{load_part32, load32, word32};
+use words::{LittleEndian, load_part, word};
 
 // Whether n words from the word `from` on are 0.
 fn zero_words(b: &[u8], from: usize, n: usize) -> bool
@@ -16,7 +16,7 @@ fn zero_words(b: &[u8], from: usize, n: usize) -> bool
 {
     let mut bits = 0u32;
     for i in 0..n {
-        bits = bits | load32(b, (from + i) * 4) as u32;
+        bits = bits | u32::load(b, (from + i) * 4);
     }
     bits == 0
 }
@@ -26,7 +26,7 @@ fn zero_part(active: &[u8], configured: &[u8], used: &[u8], from: usize, n: usiz
     requires { PartIn active.now configured.now used.now from n }
     ensures { T result → Zeros n (part from n (table_of 4 active.now)) (part from n (table_of 4 configured.now)) (part from n (table_of 4 used.now)) }
 {
-    if word32(active, from) != 0 {
+    if word(active, from, 0u32) != 0 {
         return false;
     }
     if zero_words(active, from, n) {
@@ -54,9 +54,9 @@ fn sum_loaded(
         × Rows na q rows (part from n (table_of 4 active.now)) (part from n (table_of 4 configured.now)) (part from n (table_of 4 used.now))) }
     ensures { Summed na q (part from n (table_of 4 active.now)) (part from n (table_of 4 configured.now)) (part from n (table_of 4 used.now)) rows result }
 {
-    load_part32(active, from, a);
-    load_part32(configured, from, c);
-    load_part32(used, from, u);
+    load_part(active, from, a);
+    load_part(configured, from, c);
+    load_part(used, from, u);
     sum_rows(a, c, u, rows, na, q)
 }
 

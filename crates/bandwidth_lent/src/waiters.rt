@@ -7,7 +7,7 @@ ghost use Rattle.bandwidth_setup.specs.View.{setup_of};
 
 use bandwidth_setup::Setup;
 use bandwidth_waiters::bad_waiter;
-use words::{union64, word64};
+use words::{union64, word};
 
 // Whether every word is one that a call stores; where none waits, the union of all tells.
 pub fn waiters_ok(setup: Setup, t: &[u8]) -> bool
@@ -18,7 +18,7 @@ pub fn waiters_ok(setup: Setup, t: &[u8]) -> bool
     }
     let mut bits = 0u64;
     for i in 0..t.len() / 8 {
-        bits = bits | bad_waiter(setup, word64(t, i));
+        bits = bits | bad_waiter(setup, word(t, i, 0));
     }
     bits == 0
 }

@@ -2,7 +2,7 @@ use mathlib.Core.Path.{sym}
 use native.Mathlib.Omega.{arith}
 use Rattle.std.proofs.lemmas.Result.{err_from_is_err_and}
 use Rattle.bandwidth_lent.proofs.Steps.{refused_by}
-use Rattle.bandwidth_lent.proofs.Checks.{held_ranges, rows_held, tables_summed, words_held}
+use Rattle.bandwidth_lent.proofs.Checks.{held_ranges, rows_held, found_by}
 use Rattle.bandwidth_lent.proofs.check.checked.Goals as goal
 
 pub returns-in_err-given : goal.returns-in_err-given
@@ -33,3 +33,19 @@ events_ok-e-requires c = (held_ranges _ _ c.in_ok-given.ensures.loaded (sym c.in
 
 pub state_ok-requires : goal.state_ok-requires
 state_ok-requires c = held_ranges _ _ c.in_ok-given.ensures.loaded (sym c.in_ok-given.ensures.refusal)
+
+pub returns-in_err-totals : goal.returns-in_err-totals
+returns-in_err-totals c =
+    let p = err_from_is_err_and c.from_residual-in_err-totals.result c.from_residual-in_err-totals.ensures.1 in
+    rw (p.1, p.2)
+    (found_by _ _ c.in_ok-given.ensures.loaded (sym c.in_ok-given.ensures.refusal) c.tables_by-tables.result c.state_ok.result
+    (λ i. (c.type_inv.«record» i).fits) (λ i. (c.type_inv.active i).fits) (λ i. (c.type_inv.configured i).fits) (λ i. (c.type_inv.used i).fits)
+    (λ i. (c.type_inv.counters i).fits) (λ i. (c.type_inv.events i).fits) (λ i. (c.type_inv.waiters i).fits)
+    c.sum_bytes-sums.ensures c.bandwidth_counters_ok-k.ensures c.events_ok-e.ensures c.waiters_ok-w.ensures c.tables_by-tables.ensures c.state_ok.ensures c.in_err-totals.ensures.value)
+
+pub returns : goal.returns
+returns c =
+    found_by _ _ c.in_ok-given.ensures.loaded (sym c.in_ok-given.ensures.refusal) c.tables_by-tables.result c.state_ok.result
+    (λ i. (c.type_inv.«record» i).fits) (λ i. (c.type_inv.active i).fits) (λ i. (c.type_inv.configured i).fits) (λ i. (c.type_inv.used i).fits)
+    (λ i. (c.type_inv.counters i).fits) (λ i. (c.type_inv.events i).fits) (λ i. (c.type_inv.waiters i).fits)
+    c.sum_bytes-sums.ensures c.bandwidth_counters_ok-k.ensures c.events_ok-e.ensures c.waiters_ok-w.ensures c.tables_by-tables.ensures c.state_ok.ensures c.in_ok-totals.ensures.value

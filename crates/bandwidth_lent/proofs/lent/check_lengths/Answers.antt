@@ -1,12 +1,10 @@
-use mathlib.Core.Path.{sym, ap, ◌∙◌}
-use mathlib.Core.Bool.{Bool, cond}
+use mathlib.Core.Path.{sym, ◌∙◌}
 use native.Mathlib.Omega.{arith}
 use Rattle.tables.proofs.Tests.{of_true}
 use Rattle.bandwidth_model.specs.View.{Ranges}
 use Rattle.bandwidth_model.proofs.Setup.{ranges}
 use Rattle.bandwidth_setup.specs.View.{setup_of}
-use Rattle.bandwidth_lent.specs.Bytes.{bytes_fit}
-use Rattle.bandwidth_lent.proofs.Lengths.{wrong_record, wrong_setup, wrong_lengths}
+use Rattle.bandwidth_lent.proofs.Lengths.{wrong_record, wrong_setup, judged}
 use Rattle.bandwidth_lent.proofs.lent.check_lengths.Goals as goal
 
 pub returns-then-record-ne96 : goal.returns-then-record-ne96
@@ -25,16 +23,10 @@ pub overflow_mul-fit-then-in_range-2 : goal.overflow_mul-fit-then-in_range-2
 overflow_mul-fit-then-in_range-2 c = let r : Ranges (setup_of _) = ranges _ (of_true (sym c.in_range.ensures ∙ c.if-in_range.true)) in record { fits = omega (arith, r.nr_high) }
 
 pub returns-then-fit : goal.returns-then-fit
-unfolding bytes_fit
-returns-then-fit c =
-    ap (λ (b : Bool). cond b 0 2) (sym c.if-fit.true)
-    ∙ rw c.pairs.ensures.is (wrong_lengths _ _ c.if-record-ne96.false (sym c.in_range.ensures ∙ c.if-in_range.true))
+returns-then-fit c = judged _ _ c.if-record-ne96.false (sym c.in_range.ensures ∙ c.if-in_range.true) c.pairs.ensures.is c.if-fit.true
 
 pub returns-else-fit : goal.returns-else-fit
-unfolding bytes_fit
-returns-else-fit c =
-    ap (λ (b : Bool). cond b 0 2) (sym c.if-fit.false)
-    ∙ rw c.pairs.ensures.is (wrong_lengths _ _ c.if-record-ne96.false (sym c.in_range.ensures ∙ c.if-in_range.true))
+returns-else-fit c = judged _ _ c.if-record-ne96.false (sym c.in_range.ensures ∙ c.if-in_range.true) c.pairs.ensures.is c.if-fit.false
 
 pub returns-else-in_range : goal.returns-else-in_range
 returns-else-in_range c = wrong_setup _ _ c.if-record-ne96.false (sym c.in_range.ensures ∙ c.if-in_range.false)

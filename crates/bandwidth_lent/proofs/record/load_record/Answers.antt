@@ -4,4 +4,4 @@ use Rattle.bandwidth_lent.proofs.record.load_record.Goals as goal
 
 pub returns : goal.returns
 unfolding words_of
-returns c = rw c.decode64.ensures refl
+returns c = rw c.decode.ensures refl

@@ -8,12 +8,12 @@ use Rattle.bandwidth.proofs.ResetTable.{first_inside}
 use Rattle.bandwidth_lent.proofs.Resets.{reset_stored}
 use Rattle.bandwidth_lent.proofs.reset.fill_table.Goals as goal
 
-pub store_part32-requires : goal.store_part32-requires
-store_part32-requires c =
+pub store_part-requires : goal.store_part-requires
+store_part-requires c =
     omega (arith, first_inside _ c.requires.0, c.requires.1.0, c.requires.1.1, c.fill.auto.self, c.reset_row.auto.row)
 
 pub returns : goal.returns
 returns c =
     let su = setup_of c.args.setup in
     reset_stored su c.requires.0 _ _ _ (c.reset_row.ensures ∙ ap (reset_row su) c.requires.1.1) (c.reset_row.auto.row ∙ c.requires.1.1)
-    (c.fill.ensures.after (λ n e. e) ∙ ap (λ (n : ℕ). replicate n 0) c.requires.1.0) c.store_part32.ensures
+    (c.fill.ensures.after (λ n e. e) ∙ ap (λ (n : ℕ). replicate n 0) c.requires.1.0) c.store_part.ensures

@@ -16,4 +16,4 @@ pub reset_tables-requires : goal.reset_tables-requires
 reset_tables-requires c = let z = sym c.in_ok-check_lengths.ensures in (in_range _ _ z, (long _ _ z).tables)
 
 pub returns : goal.returns
-returns c = reset_done _ _ (sym c.in_ok-check_lengths.ensures) _ _ _ _ _ _ _ c.store_record.ensures c.reset_tables.ensures
+returns c = reset_done _ _ (sym c.in_ok-check_lengths.ensures) _ _ _ _ _ _ _ (rw c.fresh.ensures at c.store_record.ensures) c.reset_tables.ensures

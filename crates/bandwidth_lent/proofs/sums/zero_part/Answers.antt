@@ -1,8 +1,8 @@
 use Rattle.tables.proofs.Tests.{and_l, and_r, of_true}
 use Rattle.bandwidth_lent.proofs.sums.zero_part.Goals as goal
 
-pub returns-then-word32-ne0 : goal.returns-then-word32-ne0
-returns-then-word32-ne0 c t = absurd t
+pub returns-then-word-ne0 : goal.returns-then-word-ne0
+returns-then-word-ne0 c t = absurd t
 
 pub returns-then-zero_words : goal.returns-then-zero_words
 returns-then-zero_words c t = record {

@@ -11,7 +11,7 @@ loop-i-init c = at_most_none _ _
 pub loop-i-preserved : goal.loop-i-preserved
 loop-i-preserved c =
     let i = c.loop-i.i in
-    rw (word_in c.args.from c.args.n i _ c.args.b.now c.requires (omega arith) c.load32.ensures.0) (at_most_next _ i _ c.loop-i.invariant)
+    rw (word_in c.args.from c.args.n i _ c.args.b.now c.requires (omega arith) c.load-bits.ensures) (at_most_next _ i _ c.loop-i.invariant)
 
 pub returns : goal.returns
 returns c t =
