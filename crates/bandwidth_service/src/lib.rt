@@ -17,7 +17,7 @@ use bandwidth_setup::Setup;
 use bandwidth_waiters::{serve, served_word, share_weight};
 use fields::Waiter;
 use monitor_bytes::count_bytes;
-use tables::row_at;
+use tables::row_of;
 use words::{load_part, put, store_part, word};
 
 // The weight of a waiter by n words of its RCID from the word `from` on, with an array for them.
@@ -47,13 +47,13 @@ fn weight_at(setup: Setup, active: &[u8], waiters: &[u8], rcid: usize) -> u64
         return 0;
     }
     let waiter = Waiter::unpack(word);
-    let place = row_at(setup.nr, setup.na, rcid as u64);
-    let n = place.to - place.from;
+    let place = row_of(setup.nr, setup.na, rcid as u64);
+    let n = place.end - place.start;
     let mut row = [0u32; 8];
     weight_loaded(
         setup,
         active,
-        place.from,
+        place.start,
         &mut row[..n],
         n,
         waiter.at,
@@ -153,13 +153,13 @@ fn serve_at(
         return pool;
     }
     let waiter = Waiter::unpack(word);
-    let place = row_at(setup.nr, setup.na, rcid as u64);
+    let place = row_of(setup.nr, setup.na, rcid as u64);
     let given = serve_bytes(
         setup,
         active,
         used,
-        place.from,
-        place.to - place.from,
+        place.start,
+        place.end - place.start,
         pool,
         size,
         weights,

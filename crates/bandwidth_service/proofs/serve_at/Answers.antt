@@ -16,7 +16,7 @@ pub serve_bytes-given-requires : goal.serve_bytes-given-requires
 unfolding pairs
 serve_bytes-given-requires c =
     let p = c.requires in
-    let w = c.row_at-place.ensures in (
+    let w = c.row_of-place.ensures in (
       record {
         active_in = omega (arith, w.order, w.inside, p.active_long);
         used_in = omega (arith, w.order, w.inside, p.used_long);
@@ -34,7 +34,7 @@ returns c =
     let is = c.unpack-waiter.ensures.is in
     let word = c.word-word.ensures in
     let g = c.serve_bytes-given in
-    turned_one c.requires c.row_at-place.ensures c.args.weights (λ z. c.if-word-eq0.false (word ∙ z))
+    turned_one c.requires c.row_of-place.ensures c.args.weights (λ z. c.if-word-eq0.false (word ∙ z))
     (ap (λ (vs : List ℕ). get_or vs 3 0) is ∙ ap need_of word) (ap (λ (vs : List ℕ). get_or vs 2 0) is ∙ ap waiter_mcid word)
     (ap (λ (vs : List ℕ). get_or vs 1 0) is ∙ ap waiter_at word) (ap (λ (vs : List ℕ). get_or vs 0 0) is ∙ ap waiter_kind word)
     g.ensures c.count_bytes.ensures c.put.ensures (c.served_word.ensures ∙ ap (λ (n : ℕ). served_word n g.result.sum) word)
