@@ -9,7 +9,7 @@ use access::Refusal;
 use bandwidth::{Record, Totals};
 use bandwidth_wellformed::tables_by;
 use codes::Resource;
-use monitor_bytes::{bandwidth_counters_ok, events_ok};
+use monitor_bytes::{counters_ok, events_ok};
 
 // The record that the bytes hold, and what the settings tables reserve.
 #[derive(Clone, Copy)]
@@ -40,7 +40,7 @@ pub fn checked(
         setup.na as u32,
         setup.q as u32,
     );
-    let k = bandwidth_counters_ok(counters, setup.w as u32);
+    let k = counters_ok(Resource::Bandwidth, counters, setup.w as u32);
     let e = events_ok(events, setup.na as u16, Resource::Bandwidth);
     let w = waiters_ok(setup, waiters);
     let tables = tables_by(setup, sums, k, e, w);

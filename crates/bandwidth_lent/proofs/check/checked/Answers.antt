@@ -22,8 +22,8 @@ sum_bytes-sums-requires c = rows_held _ _ c.in_ok-given.ensures.loaded (sym c.in
 pub overflow_cast-setup-3 : goal.overflow_cast-setup-3
 overflow_cast-setup-3 c = let r = held_ranges _ _ c.in_ok-given.ensures.loaded (sym c.in_ok-given.ensures.refusal) in omega (arith, r.w_high)
 
-pub bandwidth_counters_ok-k-requires : goal.bandwidth_counters_ok-k-requires
-bandwidth_counters_ok-k-requires c = (held_ranges _ _ c.in_ok-given.ensures.loaded (sym c.in_ok-given.ensures.refusal)).w_high
+pub counters_ok-k-requires : goal.counters_ok-k-requires
+counters_ok-k-requires c = (held_ranges _ _ c.in_ok-given.ensures.loaded (sym c.in_ok-given.ensures.refusal)).w_high
 
 pub overflow_cast-setup-4 : goal.overflow_cast-setup-4
 overflow_cast-setup-4 c = let r = held_ranges _ _ c.in_ok-given.ensures.loaded (sym c.in_ok-given.ensures.refusal) in omega (arith, r.na_high)
@@ -41,11 +41,11 @@ returns-in_err-totals c =
     (found_by _ _ c.in_ok-given.ensures.loaded (sym c.in_ok-given.ensures.refusal) c.tables_by-tables.result c.state_ok.result
     (λ i. (c.type_inv.«record» i).fits) (λ i. (c.type_inv.active i).fits) (λ i. (c.type_inv.configured i).fits) (λ i. (c.type_inv.used i).fits)
     (λ i. (c.type_inv.counters i).fits) (λ i. (c.type_inv.events i).fits) (λ i. (c.type_inv.waiters i).fits)
-    c.sum_bytes-sums.ensures c.bandwidth_counters_ok-k.ensures c.events_ok-e.ensures c.waiters_ok-w.ensures c.tables_by-tables.ensures c.state_ok.ensures c.in_err-totals.ensures.value)
+    c.sum_bytes-sums.ensures c.counters_ok-k.ensures c.events_ok-e.ensures c.waiters_ok-w.ensures c.tables_by-tables.ensures c.state_ok.ensures c.in_err-totals.ensures.value)
 
 pub returns : goal.returns
 returns c =
     found_by _ _ c.in_ok-given.ensures.loaded (sym c.in_ok-given.ensures.refusal) c.tables_by-tables.result c.state_ok.result
     (λ i. (c.type_inv.«record» i).fits) (λ i. (c.type_inv.active i).fits) (λ i. (c.type_inv.configured i).fits) (λ i. (c.type_inv.used i).fits)
     (λ i. (c.type_inv.counters i).fits) (λ i. (c.type_inv.events i).fits) (λ i. (c.type_inv.waiters i).fits)
-    c.sum_bytes-sums.ensures c.bandwidth_counters_ok-k.ensures c.events_ok-e.ensures c.waiters_ok-w.ensures c.tables_by-tables.ensures c.state_ok.ensures c.in_ok-totals.ensures.value
+    c.sum_bytes-sums.ensures c.counters_ok-k.ensures c.events_ok-e.ensures c.waiters_ok-w.ensures c.tables_by-tables.ensures c.state_ok.ensures c.in_ok-totals.ensures.value

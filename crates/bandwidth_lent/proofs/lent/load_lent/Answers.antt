@@ -23,5 +23,5 @@ returns-in_err-check_lengths-clause-refusal c =
     let p = err_from_is_err_and c.from_residual.result c.from_residual.ensures.1 in
     rw (p.1, p.2) (by_held _ c.load_record-given.ensures c.in_err-check_lengths.ensures)
 
-pub returns-in_ok-check_lengths-clause-refusal : goal.returns-then-record-eq96-clause-refusal
+pub returns-in_ok-check_lengths-clause-refusal : goal.returns-in_ok-check_lengths-clause-refusal
 returns-in_ok-check_lengths-clause-refusal c = by_held _ c.load_record-given.ensures c.in_ok-check_lengths.ensures
