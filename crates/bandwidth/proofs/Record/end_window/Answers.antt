@@ -8,8 +8,5 @@ returns-in_err-totals c =
     let p = err_from_is_err_and c.from_residual.result c.from_residual.ensures.1 in
     rw (p.1, p.2) (call_failed _ end_window tt _ c.in_err-totals.ensures)
 
-pub open_window-requires : goal.open_window-requires
-open_window-requires c = c.in_ok-totals.ensures
-
 pub returns : goal.returns
 returns c = end_done c.in_ok-totals.ensures _ c.open_window.ensures

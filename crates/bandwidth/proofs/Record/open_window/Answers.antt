@@ -6,12 +6,6 @@ use lib.ListN.{replicate}
 use Rattle.bandwidth.proofs.Windows.{window_opens, window_size, window_served}
 use Rattle.bandwidth.proofs.Record.open_window.Goals as goal
 
--- the tables of settings are of one length
-pub copy_from_slice-requires : goal.copy_from_slice-requires
-copy_from_slice-requires c =
-    let z = c.requires.sized in
-    cc (z.active_long, z.configured_long)
-
 pub overflow_mul-size : goal.overflow_mul-size
 overflow_mul-size c =
     let r = c.requires.ranges in

@@ -8,8 +8,5 @@ returns-in_err-check c =
     let p = err_from_is_err_and c.from_residual.result c.from_residual.ensures.1 in
     rw (p.1, p.2) (call_failed _ (read _ _) tt _ c.in_err-check.ensures)
 
-pub reading-requires : goal.reading-requires
-reading-requires c = c.in_ok-check.ensures.ranges
-
 pub returns : goal.returns
 returns c = c.reading.ensures _ _ _ _ _ _ _ c.in_ok-check.ensures

@@ -16,9 +16,6 @@ pub give-given-requires : goal.give-given-requires
 give-given-requires c =
     request_fits c.requires.0 _ _ c.requires.1 c.known_at-at.ensures c.row_at-place.ensures
 
-pub count_bytes-requires : goal.count_bytes-requires
-count_bytes-requires c = (c.requires.0.ranges.w_high, omega (arith, c.give-given.ensures.small))
-
 pub returns : goal.returns
 returns c =
     serve_row c.requires.0 _ _ c.requires.1 c.known_at-at.ensures c.row_at-place.ensures _ _ c.give-given.ensures c.count_bytes.ensures

@@ -14,8 +14,5 @@ returns-in_err-check_write c =
     let p = err_from_is_err_and r.result r.ensures.1 in
     rw (p.1, p.2) (write_refused c.in_ok-totals.ensures _ _ _ _ c.in_err-check_write.ensures)
 
-pub store-requires : goal.store-requires
-store-requires c = c.in_ok-totals.ensures
-
 pub returns : goal.returns
 returns c = write_done c.in_ok-totals.ensures _ _ _ _ c.in_ok-check_write.ensures c.store.ensures
