@@ -1,5 +1,6 @@
 -- A call by its checks, and its steps, each by its own definition, put together.
-use mathlib.Core.Path.{◌≡◌, refl, sym, ap, subst, ◌∙◌}
+use Rattle.std.specs.Prelude.{Ok, Err}
+use mathlib.Core.Path.{◌≡◌, refl, sym, ap, ◌∙◌}
 use mathlib.Core.Bool.{Bool, true, false, not, cond}
 use mathlib.Core.List.{List}
 use mathlib.Core.Logic.{◌⊎◌, inl, inr, ⊎_elim}
@@ -15,8 +16,6 @@ use Rattle.access.specs.Checks.{first}
 use Rattle.access.specs.Pairs.{word_at, known_at}
 use Rattle.access.specs.Refusals.{number_of}
 use Rattle.access.specs.declared.Refusal.{Refusal}
-use Rattle.access.specs.declared.Ack.{Ack}
-use Rattle.access.specs.declared.Ack.TheVariants as ack
 use Rattle.access.proofs.Access.{halves}
 use Rattle.access.proofs.Refusals.{number_pos}
 use Rattle.allocation.specs.Allocation.{rcid_of}
@@ -30,7 +29,7 @@ use Rattle.monitor.specs.View.{WordsAfter}
 use Rattle.monitor.specs.declared.MonWords.{MonWords}
 use Rattle.monitor.proofs.Steps as monitor
 use Rattle.capacity_model.specs.Rules.{Setup, unit_count, block_of, mask_of, has_block, reset_masks, alloc_succeeds, owners_after}
-use Rattle.capacity_model.specs.Calls.{Call, reset, write, fill, evict, refused, done, allowed}
+use Rattle.capacity_model.specs.Calls.{Call, reset, fill, evict, refused, done, allowed}
 use Rattle.capacity_model.specs.Claim.{is_reset}
 use Rattle.capacity_model.specs.View.{Named}
 use Rattle.capacity_model.specs.Model.{State, Allocation, Outcome, with_alloc, with_monitor, with_units, fill_checks, argument_checks, setup_checks, state_checks, after_reset, write_alloc, counters_after, alloc_written, write_mask, write_at, unit_filled, fill_allowed, fill_with, unit_evicted, perform, step}
@@ -38,11 +37,8 @@ use Rattle.runs.proofs.Checks.{step_failed, step_refused, step_done, reset_faile
 use Rattle.capacity_model.proofs.Steps.{checking, fill_named}
 use Rattle.capacity_masks.specs.Words.{pair_of, AllocAfter}
 use Rattle.capacity_masks.specs.declared.AllocWords.{AllocWords}
-use Rattle.capacity.specs.View.{state, outcome, ack_of, filling_of}
-use Rattle.capacity.specs.Checked.{Passed, WordsIn, wrote, fill_left, FillAnswered, evict_left}
-use Rattle.capacity.specs.declared.Filling.{Filling}
-use Rattle.capacity.specs.declared.Filling.TheVariants as filling
-use Rattle.capacity.specs.declared.WriteWords.{WriteWords}
+use Rattle.capacity.specs.View.{outcome}
+use Rattle.capacity.specs.Checked.{Passed, WordsIn, FillAnswered}
 use Rattle.capacity.proofs.Checks.{passing}
 
 -- ---- refused or performed
@@ -144,67 +140,42 @@ module _ (s : State) (size offset v mask counter setting : ℕ) (n : WordsIn s v
       → left s.monitor.ctl s.monitor.value s.alloc.ctl s.alloc.mask mask counter setting false ≡ write_at s size offset v
   none_stored w a b c = rw (masks_kept, counters_kept, events_kept) (write_none s size offset v w a b c)
 
-  pub write_refused : Passed s → (r : Refusal) → number_of r ≡ first (argument_checks s.setup (write size offset v)) 0
-      → outcome (refused (number_of r)) (left s.monitor.ctl s.monitor.value s.alloc.ctl s.alloc.mask mask counter setting false) ≡ step s (write size offset v)
-  write_refused p r e = rw (masks_kept, counters_kept, events_kept) (call_refused s (write size offset v) tt p r e)
-
 -- the words at the places that the value names
 pub words_in : (s : State) (v p i mask counter setting : ℕ) → p ≡ pair_of s.setup v → i ≡ mcid_of v → mask ≡ get_or s.alloc.masks p 0 → counter ≡ get_or s.monitor.counters i 0
     → setting ≡ get_or s.monitor.events i 0 → WordsIn s v mask counter setting
 words_in s v p i mask counter setting a b m k e = record { mask_is = rw (← a) m; monitor_is = record { counter_is = rw (← b) k; setting_is = rw (← b) e } }
 
-pub words_out : (su : Setup) (x : WriteWords) (ms ns es os masks counters events left owners : List ℕ) (v p i r : ℕ) → p ≡ pair_of su v → i ≡ mcid_of v → r ≡ rcid_of v → masks ≡ set ms p x.mask
-    → counters ≡ set ns i x.counter → events ≡ set es i x.setting → owners ≡ cond x.flushes (flushed_owners r os) os → left ≡ cond x.flushes (flushed 0 events evicted r os counters) counters
-    → state x.«record» masks left events owners ≡ wrote su x ms ns es os v
-words_out su x ms ns es os masks counters events left owners v p i r a b d m k e o l = rw (m, l, o, k, e, a, b, d) refl
-
 -- ---- cache events
 
 module _ (s : State) (rcid mcid at unit : ℕ) (p : Passed s) where
-  pub fill_refused : (r : Refusal) → number_of r ≡ first (fill_checks s.setup rcid mcid unit) 0 → FillAnswered s rcid mcid at unit (filling.Refused r)
+  pub fill_refused : (r : Refusal) → number_of r ≡ first (fill_checks s.setup rcid mcid unit) 0 → FillAnswered s rcid mcid at unit (Err r)
   unfolding argument_checks
   fill_refused r e = record { answers = call_refused s (fill rcid mcid at unit) tt p r e; named = tt }
 
   -- by the mask of its pair
   module _ (e : 0 ≡ first (fill_checks s.setup rcid mcid unit) 0) (mask block : ℕ) (m : rcid < s.setup.nr → mask ≡ word_at s.setup.na s.alloc.masks rcid (known_at s.setup.na at))
-      (k : block ≡ block_of s.setup unit) (b : Bool) (h : b ≡ has_block mask block) where
+      (k : block ≡ block_of s.setup unit) where
     there : Named s.setup rcid mcid unit
     there = fill_named s.setup rcid mcid unit (sym e)
 
-    allowed_is : b ≡ fill_allowed s rcid at unit
-    unfolding fill_allowed
-    allowed_is = h ∙ rw (m there.rcid_in, k) refl
+    pub fill_answered : (b : Bool) → b ≡ has_block mask block → FillAnswered s rcid mcid at unit (Ok b)
+    unfolding argument_checks perform fill_with fill_allowed
+    fill_answered b h =
+        let allowed_is : b ≡ fill_allowed s rcid at unit = h ∙ rw (m there.rcid_in, k) refl in
+        record { answers = call_done s (fill rcid mcid at unit) tt p e _ (rw allowed_is refl); named = there }
 
-    pub fill_allowed_lem : b ≡ true → FillAnswered s rcid mcid at unit filling.Allowed
-    unfolding argument_checks perform fill_with
-    fill_allowed_lem t = record { answers = call_done s (fill rcid mcid at unit) tt p e _ (rw (← allowed_is, t) refl); named = there }
-
-    pub fill_not : b ≡ false → FillAnswered s rcid mcid at unit filling.NotAllowed
-    unfolding argument_checks perform fill_with
-    fill_not t = record { answers = call_done s (fill rcid mcid at unit) tt p e _ (rw (← allowed_is, t) refl); named = tt }
-
--- the tables as a fill and an eviction leave them
-module _ (s : State) (rcid mcid at unit : ℕ) {r : Filling} (f : FillAnswered s rcid mcid at unit r) where
-  answered_by : (x : Filling) → r ≡ x → FillAnswered s rcid mcid at unit x
-  answered_by x e = subst (λ (y : Filling). FillAnswered s rcid mcid at unit y) e f
-
-  pub fill_there : r ≡ filling.Allowed → Named s.setup rcid mcid unit
-  fill_there e = (answered_by filling.Allowed e).named
-
-  pub fill_performed : r ≡ filling.Allowed → (known : ℕ) (owners counters : List ℕ) → known ≡ known_at s.setup.na at → owners ≡ set s.owners unit (owner_word rcid mcid known)
+-- the units as an allowed fill leaves them, and one that is not
+module _ (s : State) (rcid mcid at unit : ℕ) (b : Bool) (f : FillAnswered s rcid mcid at unit (Ok b)) where
+  pub fill_performed : b ≡ true → (known : ℕ) (owners counters : List ℕ) → known ≡ known_at s.setup.na at → owners ≡ set s.owners unit (owner_word rcid mcid known)
       → counters ≡ refilled 0 s.monitor.events (filled s.setup.w) evicted s.monitor.counters (get_or s.owners unit 0) mcid known
-      → outcome (allowed true) (with_units s owners counters) ≡ step s (fill rcid mcid at unit)
+      → outcome (allowed b) (with_units s owners counters) ≡ step s (fill rcid mcid at unit)
   unfolding unit_filled
-  fill_performed e known owners counters a o k = rw (o, k, a) (answered_by filling.Allowed e).answers
+  fill_performed e known owners counters a o k = rw (o, k, a, ← f.answers, e) refl
 
-  pub fill_kept : (x : Filling) → r ≡ x → fill_left s rcid mcid at unit x ≡ s → outcome (filling_of x) s ≡ step s (fill rcid mcid at unit)
-  fill_kept x e k = ap (λ (t : State). outcome (filling_of x) t) (sym k) ∙ (answered_by x e).answers
+  pub fill_kept : b ≡ false → outcome (allowed b) s ≡ step s (fill rcid mcid at unit)
+  fill_kept e = rw (← f.answers, e) refl
 
-module _ (s : State) (unit : ℕ) {r : Ack} (e : outcome (ack_of r) (evict_left s unit r) ≡ step s (evict unit)) where
-  pub evict_performed : r ≡ ack.Done → (owners counters : List ℕ) → owners ≡ set s.owners unit 0
-      → counters ≡ emptied 0 s.monitor.events evicted s.monitor.counters (get_or s.owners unit 0) → outcome done (with_units s owners counters) ≡ step s (evict unit)
-  unfolding unit_evicted
-  evict_performed q owners counters o k = rw (o, k) (subst (λ (x : Ack). outcome (ack_of x) (evict_left s unit x) ≡ step s (evict unit)) q e)
-
-  pub evict_kept : (why : Refusal) → r ≡ ack.Refused why → outcome (refused (number_of why)) s ≡ step s (evict unit)
-  evict_kept why q = subst (λ (x : Ack). outcome (ack_of x) (evict_left s unit x) ≡ step s (evict unit)) q e
+pub evict_performed : (s : State) (unit : ℕ) → outcome done (unit_evicted s unit) ≡ step s (evict unit) → (owners counters : List ℕ) → owners ≡ set s.owners unit 0
+    → counters ≡ emptied 0 s.monitor.events evicted s.monitor.counters (get_or s.owners unit 0) → outcome done (with_units s owners counters) ≡ step s (evict unit)
+unfolding unit_evicted
+evict_performed s unit e owners counters o k = rw (o, k) e

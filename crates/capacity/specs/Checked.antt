@@ -1,11 +1,10 @@
 -- What the checks leave, for the functions that go on from there.
-use Rattle.std.specs.Prelude.{◌≡◌, Bool, cond, List, ℕ, T, eqb, length, get_or, set}
+use Rattle.std.specs.Prelude.{◌≡◌, Bool, cond, List, ℕ, T, eqb, length, get_or, set, Result, Ok, Err}
 use Rattle.fields.specs.Registers as reg
 use Rattle.tables.specs.Below.{all_below}
 use Rattle.access.specs.Checks.{first}
 use Rattle.access.specs.Pairs.{known_at}
-use Rattle.access.specs.declared.Ack.{Ack}
-use Rattle.access.specs.declared.Ack.TheVariants as ack
+use Rattle.access.specs.declared.Refusal.{Refusal}
 use Rattle.allocation.specs.Allocation.{rcid_of}
 use Rattle.monitor.specs.Monitor.{mcid_of, counter_ok, setting_ok}
 use Rattle.codes.specs.declared.Resource.TheVariants.{Capacity}
@@ -18,8 +17,6 @@ use Rattle.capacity_model.specs.View.{Ranges, Sized, Named}
 use Rattle.capacity_model.specs.Model.{State, well_formed, state_checks, unit_filled, unit_evicted, step}
 use Rattle.capacity_masks.specs.Words.{pair_of}
 use Rattle.capacity.specs.View.{state, outcome, filling_of}
-use Rattle.capacity.specs.declared.Filling.{Filling}
-use Rattle.capacity.specs.declared.Filling.TheVariants as filling
 use Rattle.capacity.specs.declared.WriteWords.{WriteWords}
 
 -- the state passes checks 1 to 3
@@ -57,24 +54,27 @@ wrote su x masks counters events owners v =
     state x.«record» (set masks (pair_of su v) x.mask) (cond x.flushes (flushed 0 e evicted (rcid_of v) owners k) k) e
     (cond x.flushes (flushed_owners (rcid_of v) owners) owners)
 
+-- a refused write leaves the state
+abbrev pub write_left : State → ℕ → Result WriteWords Refusal → State
+write_left s v (Ok x) = wrote s.setup x s.alloc.masks s.monitor.counters s.monitor.events s.owners v
+write_left s v (Err why) = s
+
 -- ---- cache events: what an answer leaves
 
-abbrev pub fill_left : State → ℕ → ℕ → ℕ → ℕ → Filling → State
-fill_left s rcid mcid at unit filling.Allowed = unit_filled s rcid mcid (known_at s.setup.na at) unit
-fill_left s rcid mcid at unit filling.NotAllowed = s
-fill_left s rcid mcid at unit (filling.Refused why) = s
+abbrev pub fill_left : State → ℕ → ℕ → ℕ → ℕ → Result Bool Refusal → State
+fill_left s rcid mcid at unit (Ok b) = cond b (unit_filled s rcid mcid (known_at s.setup.na at) unit) s
+fill_left s rcid mcid at unit (Err why) = s
 
--- where it is allowed, there is all that it names
-abbrev pub FillNamed : Setup → ℕ → ℕ → ℕ → Filling → Type 0
-FillNamed su rcid mcid unit filling.Allowed = Named su rcid mcid unit
-FillNamed su rcid mcid unit filling.NotAllowed = Unit
-FillNamed su rcid mcid unit (filling.Refused why) = Unit
+-- where it is not refused, there is all that it names
+abbrev pub FillNamed : Setup → ℕ → ℕ → ℕ → Result Bool Refusal → Type 0
+FillNamed su rcid mcid unit (Ok b) = Named su rcid mcid unit
+FillNamed su rcid mcid unit (Err why) = Unit
 
 -- a fill in this state answers so
-pub record FillAnswered (s : State) (rcid mcid at unit : ℕ) (r : Filling) : Type 0 where
+pub record FillAnswered (s : State) (rcid mcid at unit : ℕ) (r : Result Bool Refusal) : Type 0 where
   pub answers : outcome (filling_of r) (fill_left s rcid mcid at unit r) ≡ step s (fill rcid mcid at unit)
   pub named : FillNamed s.setup rcid mcid unit r
 
-abbrev pub evict_left : State → ℕ → Ack → State
-evict_left s unit ack.Done = unit_evicted s unit
-evict_left s unit (ack.Refused why) = s
+abbrev pub evict_left : {X : Type 0} → State → ℕ → Result X Refusal → State
+evict_left s unit (Ok x) = unit_evicted s unit
+evict_left s unit (Err why) = s

@@ -1,16 +1,11 @@
 -- The code's record, tables and answers as the model's.
-use Rattle.std.specs.Prelude.{true, false, List, ℕ}
+use Rattle.std.specs.Prelude.{Bool, List, ℕ, Result, Ok, Err}
 use Rattle.access.specs.Refusals.{number_of}
-use Rattle.access.specs.declared.Ack.{Ack}
-use Rattle.access.specs.declared.Ack.TheVariants as ack
-use Rattle.access.specs.declared.Reading.{Reading}
-use Rattle.access.specs.declared.Reading.TheVariants as reading
+use Rattle.access.specs.declared.Refusal.{Refusal}
 use Rattle.capacity_model.specs.Calls.{Answer, refused, done, value, allowed}
 use Rattle.capacity_model.specs.Model.{State, Outcome}
 use Rattle.capacity_masks.specs.View.{setup_of, allocation}
 use Rattle.capacity.specs.declared.Record.{Record}
-use Rattle.capacity.specs.declared.Filling.{Filling}
-use Rattle.capacity.specs.declared.Filling.TheVariants as filling
 
 -- the record with the masks, counters, counter settings and owners
 abbrev pub state : Record → List ℕ → List ℕ → List ℕ → List ℕ → State
@@ -24,16 +19,15 @@ state r masks counters events owners = record {
 abbrev pub outcome : Answer → State → Outcome
 outcome a s = record { answer = a; state = s }
 
--- the number and values for each case of an answer (rules A4 and R1 to R8)
-abbrev pub ack_of : Ack → Answer
-ack_of ack.Done = done
-ack_of (ack.Refused r) = refused (number_of r)
+-- the answer of a call: done, the value read, or whether the fill is allowed; or the number of the refusal (rules A4 and R1 to R8)
+abbrev pub ack_of : {X : Type 0} → Result X Refusal → Answer
+ack_of (Ok x) = done
+ack_of (Err why) = refused (number_of why)
 
-abbrev pub reading_of : Reading → Answer
-reading_of (reading.Value v) = value v
-reading_of (reading.Refused r) = refused (number_of r)
+abbrev pub reading_of : Result ℕ Refusal → Answer
+reading_of (Ok v) = value v
+reading_of (Err why) = refused (number_of why)
 
-abbrev pub filling_of : Filling → Answer
-filling_of filling.Allowed = allowed true
-filling_of filling.NotAllowed = allowed false
-filling_of (filling.Refused r) = refused (number_of r)
+abbrev pub filling_of : Result Bool Refusal → Answer
+filling_of (Ok b) = allowed b
+filling_of (Err why) = refused (number_of why)

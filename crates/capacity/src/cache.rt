@@ -2,7 +2,7 @@
 ghost use Rattle.std.specs.Prelude.{◌≡◌, cond, List, ℕ, ◌<◌};
 ghost use Rattle.access.specs.Checks.{first};
 ghost use Rattle.access.specs.Pairs.{word_at, known_at};
-ghost use Rattle.access.specs.View.{verdict_of};
+ghost use Rattle.access.specs.View.{refusal_in};
 ghost use Rattle.monitor.specs.Occupancy.{evicted};
 ghost use Rattle.units.specs.Owners.{flushed_owners};
 ghost use Rattle.units.specs.Counts.{flushed};
@@ -13,32 +13,32 @@ ghost use Rattle.capacity_masks.specs.View.{setup_of};
 ghost use Rattle.capacity.specs.View.{state, outcome, ack_of, filling_of};
 ghost use Rattle.capacity.specs.Checked.{Passed, FillAnswered, evict_left};
 
-use crate::{Acked, Filled, Filling, Record};
-use access::{Ack, Refusal, Verdict, known_at};
+use crate::Record;
+use access::{Refusal, known_at};
 use capacity_masks::{Setup, has_block};
-use tables::word64;
+use tables::word;
 
 // Check 8.
-fn unit_verdict(setup: Setup, unit: u64) -> Verdict
+fn check_unit(setup: Setup, unit: u64) -> Result<(), Refusal>
     requires { Ranges (setup_of setup) }
-    ensures { verdict_of result ≡ first (unit_checks (setup_of setup) unit) 0 }
+    ensures { refusal_in result ≡ first (unit_checks (setup_of setup) unit) 0 }
 {
     if setup.unit_count() <= unit {
-        Verdict::Failed(Refusal::UnitNumber)
+        Err(Refusal::UnitNumber)
     } else {
-        Verdict::Passed
+        Ok(())
     }
 }
 
 // Checks 7 and 8.
-fn fill_verdict(setup: Setup, rcid: u64, mcid: u64, unit: u64) -> Verdict
+fn check_fill(setup: Setup, rcid: u64, mcid: u64, unit: u64) -> Result<(), Refusal>
     requires { Ranges (setup_of setup) }
-    ensures { verdict_of result ≡ first (fill_checks (setup_of setup) rcid mcid unit) 0 }
+    ensures { refusal_in result ≡ first (fill_checks (setup_of setup) rcid mcid unit) 0 }
 {
     if (setup.nr <= rcid) | (setup.nm <= mcid) {
-        Verdict::Failed(Refusal::Identifier)
+        Err(Refusal::Identifier)
     } else {
-        unit_verdict(setup, unit)
+        check_unit(setup, unit)
     }
 }
 
@@ -53,39 +53,29 @@ pub fn flush_if(flushes: bool, owners: &mut [u32], counters: &mut [u64], events:
 }
 
 impl Record {
-    // The answer of a fill in a state that passes checks 1 to 3, by the mask of its pair.
-    pub fn filling(self, mask: u64, rcid: u64, mcid: u64, unit: u64) -> Filling
-        requires { Ranges (setup_of self.setup) }
-        ensures { (ms ns es os : List ℕ) (at : ℕ) → Passed (state self ms ns es os) → (rcid < self.setup.nr → mask ≡ word_at self.setup.na ms rcid (known_at self.setup.na at))
-            → FillAnswered (state self ms ns es os) rcid mcid at unit result }
+    // Whether a fill is allowed in a state that passes checks 1 to 3, by the mask of its pair.
+    pub fn filling(&self, mask: u64, rcid: u64, mcid: u64, unit: u64) -> Result<bool, Refusal>
+        requires { Ranges (setup_of self.now.setup) }
+        ensures { (ms ns es os : List ℕ) (at : ℕ) → Passed (state self.now ms ns es os) → (rcid < self.now.setup.nr → mask ≡ word_at self.now.setup.na ms rcid (known_at self.now.setup.na at))
+            → FillAnswered (state self.now ms ns es os) rcid mcid at unit result }
     {
         let setup = self.setup;
-        match fill_verdict(setup, rcid, mcid, unit) {
-            Verdict::Failed(why) => Filling::Refused(why),
-            Verdict::Passed => {
-                if has_block(mask, setup.block_of(unit)) {
-                    Filling::Allowed
-                } else {
-                    Filling::NotAllowed
-                }
-            }
-        }
+        check_fill(setup, rcid, mcid, unit)?;
+        Ok(has_block(mask, setup.block_of(unit)))
     }
 
     // The answer of an eviction in a state that passes checks 1 to 3.
-    pub fn evicting(self, unit: u64) -> Ack
-        requires { Ranges (setup_of self.setup) }
-        ensures { (ms ns es os : List ℕ) → Passed (state self ms ns es os)
-            → outcome (ack_of result) (evict_left (state self ms ns es os) unit result) ≡ step (state self ms ns es os) (evict unit) }
+    pub fn evicting(&self, unit: u64) -> Result<(), Refusal>
+        requires { Ranges (setup_of self.now.setup) }
+        ensures { (ms ns es os : List ℕ) → Passed (state self.now ms ns es os)
+            → outcome (ack_of result) (evict_left (state self.now ms ns es os) unit result) ≡ step (state self.now ms ns es os) (evict unit) }
     {
-        match unit_verdict(self.setup, unit) {
-            Verdict::Failed(why) => Ack::Refused(why),
-            Verdict::Passed => Ack::Done,
-        }
+        check_unit(self.setup, unit)
     }
 
+    // Whether the fill is allowed.
     pub fn fill(
-        self,
+        &self,
         masks: &[u64],
         counters: &mut [u64],
         events: &[u16],
@@ -94,69 +84,34 @@ impl Record {
         mcid: u64,
         at: u64,
         unit: u64,
-    ) -> Filled
-        ensures { outcome (filling_of result.filling) (state result.«record» masks.now counters.new events.now owners.new) ≡ step (state self masks.now counters.old events.now owners.old) (fill rcid mcid at unit) }
+    ) -> Result<bool, Refusal>
+        ensures { outcome (filling_of result) (state self.now masks.now counters.new events.now owners.new) ≡ step (state self.now masks.now counters.old events.now owners.old) (fill rcid mcid at unit) }
     {
-        match self.check(masks, counters, events, owners) {
-            Verdict::Failed(why) => Filled {
-                record: self,
-                filling: Filling::Refused(why),
-            },
-            Verdict::Passed => {
-                let setup = self.setup;
-                let mask = word64(masks, setup.pair_at(rcid, at));
-                let filling = self.filling(mask, rcid, mcid, unit);
-                match filling {
-                    Filling::Allowed => {
-                        let known = known_at(setup.na, at);
-                        let i = unit as usize;
-                        unit_tables::fill(setup.w, owners, counters, events, rcid, mcid, known, i);
-                        Filled {
-                            record: self,
-                            filling: Filling::Allowed,
-                        }
-                    }
-                    Filling::NotAllowed => Filled {
-                        record: self,
-                        filling: Filling::NotAllowed,
-                    },
-                    Filling::Refused(why) => Filled {
-                        record: self,
-                        filling: Filling::Refused(why),
-                    },
-                }
-            }
+        self.check(masks, counters, events, owners)?;
+        let setup = self.setup;
+        let mask = word(masks, setup.pair_at(rcid, at), 0);
+        let allowed = self.filling(mask, rcid, mcid, unit)?;
+        if allowed {
+            let known = known_at(setup.na, at);
+            let i = unit as usize;
+            unit_tables::fill(setup.w, owners, counters, events, rcid, mcid, known, i);
         }
+        Ok(allowed)
     }
 
     pub fn evict(
-        self,
+        &self,
         masks: &[u64],
         counters: &mut [u64],
         events: &[u16],
         owners: &mut [u32],
         unit: u64,
-    ) -> Acked
-        ensures { outcome (ack_of result.ack) (state result.«record» masks.now counters.new events.now owners.new) ≡ step (state self masks.now counters.old events.now owners.old) (evict unit) }
+    ) -> Result<(), Refusal>
+        ensures { outcome (ack_of result) (state self.now masks.now counters.new events.now owners.new) ≡ step (state self.now masks.now counters.old events.now owners.old) (evict unit) }
     {
-        match self.check(masks, counters, events, owners) {
-            Verdict::Failed(why) => Acked {
-                record: self,
-                ack: Ack::Refused(why),
-            },
-            Verdict::Passed => match self.evicting(unit) {
-                Ack::Refused(why) => Acked {
-                    record: self,
-                    ack: Ack::Refused(why),
-                },
-                Ack::Done => {
-                    unit_tables::evict(owners, counters, events, unit as usize);
-                    Acked {
-                        record: self,
-                        ack: Ack::Done,
-                    }
-                }
-            },
-        }
+        self.check(masks, counters, events, owners)?;
+        self.evicting(unit)?;
+        unit_tables::evict(owners, counters, events, unit as usize);
+        Ok(())
     }
 }

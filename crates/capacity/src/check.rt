@@ -1,7 +1,7 @@
 // Checks 1 to 3.
 ghost use Rattle.std.specs.Prelude.{◌≡◌, List, ℕ};
 ghost use Rattle.access.specs.Checks.{first};
-ghost use Rattle.access.specs.View.{verdict_of};
+ghost use Rattle.access.specs.View.{refusal_in};
 ghost use Rattle.capacity_model.specs.View.{Ranges, Sized};
 ghost use Rattle.capacity_model.specs.Model.{lengths_ok, well_formed, setup_checks, state_checks};
 ghost use Rattle.capacity_masks.specs.View.{setup_of};
@@ -9,7 +9,7 @@ ghost use Rattle.capacity.specs.View.{state};
 ghost use Rattle.capacity.specs.Checked.{TablesTested};
 
 use crate::Record;
-use access::{Refusal, Verdict};
+use access::Refusal;
 use allocation::control_ok;
 use capacity_masks::{Setup, mask_of, masks_ok};
 use codes::Resource;
@@ -19,7 +19,7 @@ use unit_tables::owners_ok;
 impl Record {
     // Check 2, by a set-up.
     fn lengths_ok(
-        self,
+        &self,
         setup: Setup,
         masks: &[u64],
         counters: &[u64],
@@ -27,7 +27,7 @@ impl Record {
         owners: &[u32],
     ) -> bool
         requires { Ranges (setup_of setup) }
-        ensures { result ≡ lengths_ok (setup_of setup) (state self masks.now counters.now events.now owners.now) }
+        ensures { result ≡ lengths_ok (setup_of setup) (state self.now masks.now counters.now events.now owners.now) }
     {
         let pairs = setup.pairs() as usize;
         let nm = setup.nm as usize;
@@ -39,22 +39,23 @@ impl Record {
     }
 
     // Check 3, by whether the words of each table are well formed.
-    pub fn judge(self, masks: bool, counters: bool, events: bool, owners: bool) -> bool
-        requires { Ranges (setup_of self.setup) }
-        ensures { (ms ns es os : List ℕ) → TablesTested (setup_of self.setup) ms ns es os masks counters events owners → result ≡ well_formed (state self ms ns es os) }
+    pub fn judge(&self, masks: bool, counters: bool, events: bool, owners: bool) -> bool
+        requires { Ranges (setup_of self.now.setup) }
+        ensures { (ms ns es os : List ℕ) → TablesTested (setup_of self.now.setup) ms ns es os masks counters events owners → result ≡ well_formed (state self.now ms ns es os) }
     {
-        let setup = self.setup;
-        let allocation = control_ok(setup.na, self.alloc_ctl)
-            & (self.block_mask == mask_of(setup, self.block_mask))
+        let held = *self;
+        let setup = held.setup;
+        let allocation = control_ok(setup.na, held.alloc_ctl)
+            & (held.block_mask == mask_of(setup, held.block_mask))
             & masks;
-        let monitoring = monitor::control_ok(setup.na, self.mon_ctl) & counters & events;
+        let monitoring = monitor::control_ok(setup.na, held.mon_ctl) & counters & events;
         allocation & monitoring & owners
     }
 
     // Check 3.
-    fn well_formed(self, masks: &[u64], counters: &[u64], events: &[u16], owners: &[u32]) -> bool
-        requires { Ranges (setup_of self.setup) × Sized (setup_of self.setup) masks.now counters.now events.now owners.now }
-        ensures { result ≡ well_formed (state self masks.now counters.now events.now owners.now) }
+    fn well_formed(&self, masks: &[u64], counters: &[u64], events: &[u16], owners: &[u32]) -> bool
+        requires { Ranges (setup_of self.now.setup) × Sized (setup_of self.now.setup) masks.now counters.now events.now owners.now }
+        ensures { result ≡ well_formed (state self.now masks.now counters.now events.now owners.now) }
     {
         let setup = self.setup;
         self.judge(
@@ -67,39 +68,39 @@ impl Record {
 
     // Checks 1 and 2, by a set-up.
     pub fn check_setup(
-        self,
+        &self,
         setup: Setup,
         masks: &[u64],
         counters: &[u64],
         events: &[u16],
         owners: &[u32],
-    ) -> Verdict
-        ensures { verdict_of result ≡ first (setup_checks (setup_of setup) (state self masks.now counters.now events.now owners.now)) 0 }
+    ) -> Result<(), Refusal>
+        ensures { refusal_in result ≡ first (setup_checks (setup_of setup) (state self.now masks.now counters.now events.now owners.now)) 0 }
     {
-        if setup.in_range() {
-            if self.lengths_ok(setup, masks, counters, events, owners) {
-                Verdict::Passed
-            } else {
-                Verdict::Failed(Refusal::Length)
-            }
+        if !setup.in_range() {
+            Err(Refusal::Setup)
+        } else if self.lengths_ok(setup, masks, counters, events, owners) {
+            Ok(())
         } else {
-            Verdict::Failed(Refusal::Setup)
+            Err(Refusal::Length)
         }
     }
 
     // Checks 1 to 3.
-    pub fn check(self, masks: &[u64], counters: &[u64], events: &[u16], owners: &[u32]) -> Verdict
-        ensures { verdict_of result ≡ first (state_checks (state self masks.now counters.now events.now owners.now)) 0 }
+    pub fn check(
+        &self,
+        masks: &[u64],
+        counters: &[u64],
+        events: &[u16],
+        owners: &[u32],
+    ) -> Result<(), Refusal>
+        ensures { refusal_in result ≡ first (state_checks (state self.now masks.now counters.now events.now owners.now)) 0 }
     {
-        match self.check_setup(self.setup, masks, counters, events, owners) {
-            Verdict::Failed(why) => Verdict::Failed(why),
-            Verdict::Passed => {
-                if self.well_formed(masks, counters, events, owners) {
-                    Verdict::Passed
-                } else {
-                    Verdict::Failed(Refusal::State)
-                }
-            }
+        self.check_setup(self.setup, masks, counters, events, owners)?;
+        if self.well_formed(masks, counters, events, owners) {
+            Ok(())
+        } else {
+            Err(Refusal::State)
         }
     }
 }

@@ -6,7 +6,6 @@ mod check;
 mod registers;
 mod reset;
 
-use access::{Ack, Reading, Refusal};
 use capacity_masks::Setup;
 
 // The set-up, and the registers as they read.
@@ -19,32 +18,6 @@ pub struct Record {
     pub block_mask: u64,
 }
 
-// The answer of a fill.
-#[derive(Clone, Copy)]
-pub enum Filling {
-    Allowed,
-    NotAllowed,
-    Refused(Refusal),
-}
-
-#[derive(Clone, Copy)]
-pub struct Acked {
-    pub record: Record,
-    pub ack: Ack,
-}
-
-#[derive(Clone, Copy)]
-pub struct Read {
-    pub record: Record,
-    pub reading: Reading,
-}
-
-#[derive(Clone, Copy)]
-pub struct Filled {
-    pub record: Record,
-    pub filling: Filling,
-}
-
 // The record, the words of the pair and of the MCID that a written value names, and whether the units of the RCID that it names are flushed.
 #[derive(Clone, Copy)]
 pub struct WriteWords {
@@ -53,11 +26,4 @@ pub struct WriteWords {
     pub counter: u64,
     pub setting: u16,
     pub flushes: bool,
-}
-
-// What a write answers and leaves.
-#[derive(Clone, Copy)]
-pub struct Wrote {
-    pub ack: Ack,
-    pub left: WriteWords,
 }

@@ -7,21 +7,21 @@ ghost use Rattle.capacity_model.specs.Calls.{read, write};
 ghost use Rattle.capacity_model.specs.Model.{capabilities, register, write_at, step};
 ghost use Rattle.capacity_masks.specs.View.{setup_of};
 ghost use Rattle.capacity.specs.View.{state, outcome, ack_of, reading_of};
-ghost use Rattle.capacity.specs.Checked.{Passed, WordsIn, wrote};
+ghost use Rattle.capacity.specs.Checked.{Passed, WordsIn, wrote, write_left};
 
 use crate::cache::flush_if;
-use crate::{Acked, Read, Record, WriteWords, Wrote};
-use access::{Ack, Reading, Verdict, part, read_verdict, replaced, write_verdict};
+use crate::{Record, WriteWords};
+use access::{Refusal, check_read, check_write, part, replaced};
 use capacity_masks::{alloc_after, mask_of, named_pair, named_rcid};
 use fields::CapacityCapabilities;
 use monitor::{capacity_status, mon_after, named_mcid};
-use tables::{put16, put64, word16, word64};
+use tables::{put, word};
 
 impl Record {
     // What capabilities reads; FRCID is 1.
-    fn capabilities(self) -> u64
-        requires { Ranges (setup_of self.setup) }
-        ensures { result ≡ capabilities (setup_of self.setup) }
+    fn capabilities(&self) -> u64
+        requires { Ranges (setup_of self.now.setup) }
+        ensures { result ≡ capabilities (setup_of self.now.setup) }
     {
         CapacityCapabilities {
             ver: 1,
@@ -32,9 +32,9 @@ impl Record {
     }
 
     // The register that an offset lies in.
-    fn register(self, n: u64) -> u64
-        requires { Ranges (setup_of self.setup) }
-        ensures { (ms ns es os : List ℕ) → result ≡ register (state self ms ns es os) n }
+    fn register(&self, n: u64) -> u64
+        requires { Ranges (setup_of self.now.setup) }
+        ensures { (ms ns es os : List ℕ) → result ≡ register (state self.now ms ns es os) n }
     {
         match n {
             0 => self.capabilities(),
@@ -46,37 +46,27 @@ impl Record {
     }
 
     // A read in a state that passes checks 1 to 3; it needs no word of a table.
-    pub fn reading(self, size: u64, offset: u64) -> Reading
-        requires { Ranges (setup_of self.setup) }
-        ensures { (ms ns es os : List ℕ) → Passed (state self ms ns es os) → outcome (reading_of result) (state self ms ns es os) ≡ step (state self ms ns es os) (read size offset) }
+    pub fn reading(&self, size: u64, offset: u64) -> Result<u64, Refusal>
+        requires { Ranges (setup_of self.now.setup) }
+        ensures { (ms ns es os : List ℕ) → Passed (state self.now ms ns es os) → outcome (reading_of result) (state self.now ms ns es os) ≡ step (state self.now ms ns es os) (read size offset) }
     {
-        match read_verdict(size, offset) {
-            Verdict::Failed(why) => Reading::Refused(why),
-            Verdict::Passed => Reading::Value(part(size, offset, self.register(offset / 8))),
-        }
+        check_read(size, offset)?;
+        Ok(part(size, offset, self.register(offset / 8)))
     }
 
     pub fn read(
-        self,
+        &self,
         masks: &[u64],
         counters: &[u64],
         events: &[u16],
         owners: &[u32],
         size: u64,
         offset: u64,
-    ) -> Read
-        ensures { outcome (reading_of result.reading) (state result.«record» masks.now counters.now events.now owners.now) ≡ step (state self masks.now counters.now events.now owners.now) (read size offset) }
+    ) -> Result<u64, Refusal>
+        ensures { outcome (reading_of result) (state self.now masks.now counters.now events.now owners.now) ≡ step (state self.now masks.now counters.now events.now owners.now) (read size offset) }
     {
-        match self.check(masks, counters, events, owners) {
-            Verdict::Failed(why) => Read {
-                record: self,
-                reading: Reading::Refused(why),
-            },
-            Verdict::Passed => Read {
-                record: self,
-                reading: self.reading(size, offset),
-            },
-        }
+        self.check(masks, counters, events, owners)?;
+        self.reading(size, offset)
     }
 
     // Stores what an accepted write reaches, and performs its operation on the words that its value names.
@@ -128,38 +118,24 @@ impl Record {
 
     // A write in a state that passes checks 1 to 3, on the words that its value names.
     pub fn write_words(
-        self,
+        &self,
         mask: u64,
         counter: u64,
         setting: u16,
         size: u64,
         offset: u64,
         value: u64,
-    ) -> Wrote
-        requires { Ranges (setup_of self.setup) }
-        ensures { (ms ns es os : List ℕ) → Passed (state self ms ns es os) → WordsIn (state self ms ns es os) value mask counter setting
-            → outcome (ack_of result.ack) (wrote (setup_of self.setup) result.left ms ns es os value) ≡ step (state self ms ns es os) (write size offset value) }
+    ) -> Result<WriteWords, Refusal>
+        requires { Ranges (setup_of self.now.setup) }
+        ensures { (ms ns es os : List ℕ) → Passed (state self.now ms ns es os) → WordsIn (state self.now ms ns es os) value mask counter setting
+            → outcome (ack_of result) (write_left (state self.now ms ns es os) value result) ≡ step (state self.now ms ns es os) (write size offset value) }
     {
-        match write_verdict(size, offset, value) {
-            Verdict::Failed(why) => Wrote {
-                ack: Ack::Refused(why),
-                left: WriteWords {
-                    record: self,
-                    mask,
-                    counter,
-                    setting,
-                    flushes: false,
-                },
-            },
-            Verdict::Passed => Wrote {
-                ack: Ack::Done,
-                left: self.store(mask, counter, setting, size, offset, value),
-            },
-        }
+        check_write(size, offset, value)?;
+        Ok(self.store(mask, counter, setting, size, offset, value))
     }
 
     pub fn write(
-        self,
+        &mut self,
         masks: &mut [u64],
         counters: &mut [u64],
         events: &mut [u16],
@@ -167,34 +143,25 @@ impl Record {
         size: u64,
         offset: u64,
         value: u64,
-    ) -> Acked
-        ensures { outcome (ack_of result.ack) (state result.«record» masks.new counters.new events.new owners.new) ≡ step (state self masks.old counters.old events.old owners.old) (write size offset value) }
+    ) -> Result<(), Refusal>
+        ensures { outcome (ack_of result) (state self.new masks.new counters.new events.new owners.new) ≡ step (state self.old masks.old counters.old events.old owners.old) (write size offset value) }
     {
-        match self.check(masks, counters, events, owners) {
-            Verdict::Failed(why) => Acked {
-                record: self,
-                ack: Ack::Refused(why),
-            },
-            Verdict::Passed => {
-                let p = named_pair(self.setup, value);
-                let i = named_mcid(value);
-                let wrote = self.write_words(
-                    word64(masks, p),
-                    word64(counters, i),
-                    word16(events, i),
-                    size,
-                    offset,
-                    value,
-                );
-                let left = wrote.left;
-                let ack = wrote.ack;
-                let record = left.record;
-                put64(masks, p, left.mask);
-                put64(counters, i, left.counter);
-                put16(events, i, left.setting);
-                flush_if(left.flushes, owners, counters, events, named_rcid(value));
-                Acked { record, ack }
-            }
-        }
+        self.check(masks, counters, events, owners)?;
+        let p = named_pair(self.setup, value);
+        let i = named_mcid(value);
+        let left = self.write_words(
+            word(masks, p, 0),
+            word(counters, i, 0),
+            word(events, i, 0),
+            size,
+            offset,
+            value,
+        )?;
+        put(masks, p, left.mask);
+        put(counters, i, left.counter);
+        put(events, i, left.setting);
+        flush_if(left.flushes, owners, counters, events, named_rcid(value));
+        *self = left.record;
+        Ok(())
     }
 }

@@ -7,10 +7,9 @@ ghost use Rattle.capacity_model.specs.Model.{step};
 ghost use Rattle.capacity_masks.specs.View.{setup_of};
 ghost use Rattle.capacity.specs.View.{state, outcome, ack_of};
 
-use crate::{Acked, Record};
-use access::{Ack, Verdict};
+use crate::Record;
+use access::Refusal;
 use capacity_masks::{Setup, all_blocks};
-use tables::{fill16, fill32, fill64};
 
 // The masks of a reset: every block for each AT of RCID 0, and else none.
 fn reset_masks(setup: Setup, masks: &mut [u64])
@@ -18,42 +17,40 @@ fn reset_masks(setup: Setup, masks: &mut [u64])
     ensures { masks.new ≡ reset_masks (setup_of setup) }
 {
     let na = setup.na as usize;
-    fill64(masks, 0);
-    fill64(&mut masks[..na], all_blocks(setup));
+    masks.fill(0);
+    masks[..na].fill(all_blocks(setup));
 }
 
 impl Record {
+    // The record after a reset: each register 0.
+    pub fn fresh(setup: Setup) -> Record
+        ensures { result ≡ record { setup = setup; mon_ctl = 0; mon_ctr_val = 0; alloc_ctl = 0; block_mask = 0 } }
+    {
+        Record {
+            setup,
+            mon_ctl: 0,
+            mon_ctr_val: 0,
+            alloc_ctl: 0,
+            block_mask: 0,
+        }
+    }
+
     pub fn reset(
-        mut self,
+        &mut self,
         masks: &mut [u64],
         counters: &mut [u64],
         events: &mut [u16],
         owners: &mut [u32],
         setup: Setup,
-    ) -> Acked
-        ensures { outcome (ack_of result.ack) (state result.«record» masks.new counters.new events.new owners.new) ≡ step (state self masks.old counters.old events.old owners.old) (reset (setup_of setup)) }
+    ) -> Result<(), Refusal>
+        ensures { outcome (ack_of result) (state self.new masks.new counters.new events.new owners.new) ≡ step (state self.old masks.old counters.old events.old owners.old) (reset (setup_of setup)) }
     {
-        match self.check_setup(setup, masks, counters, events, owners) {
-            Verdict::Failed(why) => Acked {
-                record: self,
-                ack: Ack::Refused(why),
-            },
-            Verdict::Passed => {
-                reset_masks(setup, masks);
-                fill64(counters, 0);
-                fill16(events, 0);
-                fill32(owners, 0);
-                Acked {
-                    record: Record {
-                        setup,
-                        mon_ctl: 0,
-                        mon_ctr_val: 0,
-                        alloc_ctl: 0,
-                        block_mask: 0,
-                    },
-                    ack: Ack::Done,
-                }
-            }
-        }
+        self.check_setup(setup, masks, counters, events, owners)?;
+        reset_masks(setup, masks);
+        counters.fill(0);
+        events.fill(0);
+        owners.fill(0);
+        *self = Record::fresh(setup);
+        Ok(())
     }
 }

@@ -7,4 +7,4 @@ pub returns : goal.returns
 returns c =
     λ ms ns es os t.
     let s = c.before in
-    well_formed_is (state s.args.self ms ns es os) t (search rules) _ _ _ c.control_ok.ensures (rw (← c.mask_of.ensures)) c.control_ok-2.ensures
+    well_formed_is (state s.args.self.now ms ns es os) t (search rules) _ _ _ c.control_ok.ensures (rw (← c.mask_of.ensures)) c.control_ok-2.ensures

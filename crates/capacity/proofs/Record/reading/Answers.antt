@@ -1,21 +1,20 @@
-use mathlib.Core.Path.{sym, ap, ◌∙◌}
-use Rattle.access.specs.View.{verdict_of}
-use Rattle.capacity.specs.View.{state}
 use mathlib.Core.Path.{refl}
+use Rattle.std.proofs.lemmas.Result.{err_from_is_err_and}
+use Rattle.capacity.specs.View.{state}
 use Rattle.capacity_model.specs.Calls.{read}
 use Rattle.capacity_model.specs.Model.{argument_checks, read_at, perform}
 use Rattle.capacity.proofs.Calls.{call_refused, call_done}
 use Rattle.capacity.proofs.Record.reading.Goals as goal
 
-pub returns-in-Failed : goal.returns-in-Failed
+pub returns-in_err-check_read : goal.returns-in_err-check_read
 unfolding argument_checks
-returns-in-Failed c =
-    λ ms ns es os p.
-    call_refused (state c.args.self ms ns es os) (read _ _) tt p c.in-Failed.why (sym (ap verdict_of c.in-Failed.is) ∙ c.read_verdict.ensures)
+returns-in_err-check_read c =
+    let p = err_from_is_err_and c.from_residual.result c.from_residual.ensures.1 in
+    λ ms ns es os q.
+    rw (p.1, p.2) (call_refused (state c.args.self.now ms ns es os) (read _ _) tt q c.in_err-check_read.field-0.0 c.in_err-check_read.ensures)
 
-pub returns-in-Passed : goal.returns-in-Passed
+pub returns : goal.returns
 unfolding argument_checks read_at perform
-returns-in-Passed c =
-    λ ms ns es os p.
-    call_done (state c.args.self ms ns es os) (read _ _) tt p (sym (ap verdict_of c.in-Passed.is) ∙ c.read_verdict.ensures) _
-    (rw (c.part.ensures, c.register.ensures ms ns es os) refl)
+returns c =
+    λ ms ns es os q.
+    call_done (state c.args.self.now ms ns es os) (read _ _) tt q c.in_ok-check_read.ensures _ (rw (c.part.ensures, c.register.ensures ms ns es os) refl)

@@ -1,7 +1,7 @@
 use mathlib.Core.Path.{refl}
 use borrow.Author.Tests.{le-leb, lt-leb}
 use Rattle.capacity_model.specs.Model.{unit_checks}
-use Rattle.capacity.proofs.cache.unit_verdict.Goals as goal
+use Rattle.capacity.proofs.cache.check_unit.Goals as goal
 
 pub returns-then-unit_count-unit : goal.returns-then-unit_count-unit
 unfolding unit_checks
