@@ -1,8 +1,10 @@
 -- A call on bytes: refused by checks 1 to 3, or answered by the model's step on the words that the bytes hold.
-use mathlib.Core.Path.{◌≡◌, refl, sym, ap, subst, ◌∙◌}
+use Rattle.std.specs.Prelude.{Result, Ok, Err}
+use mathlib.Core.Path.{◌≡◌, refl, sym, ap, ◌∙◌}
 use mathlib.Core.Bool.{Bool, true, false, not, cond}
 use mathlib.Core.List.{List, [], ◌∷◌}
 use Prim.Native.Nat.{ℕ, ◌^◌, ◌<◌}
+use native.Mathlib.Omega.{arith}
 use lib.Dec.{T, lit<}
 use lib.ListN.{get_or}
 use Rattle.words.specs.Words.{words_of, bytes_of_all, with_word, table_of, Holds}
@@ -10,9 +12,11 @@ use Rattle.words.proofs.Held as words
 use Rattle.words.proofs.Held.{put_held, held_put}
 use Rattle.words.proofs.Parts.{table_held}
 use Rattle.access.specs.Checks.{first}
-use Rattle.access.specs.declared.Ack.{Ack}
-use Rattle.access.specs.declared.Ack.TheVariants as ack
+use Rattle.access.specs.Refusals.{number_of}
+use Rattle.access.specs.View.{refusal_in}
+use Rattle.access.specs.declared.Refusal.{Refusal}
 use Rattle.access.specs.declared.Refusal.TheVariants as why
+use Rattle.access.proofs.Refusals.{number_pos}
 use Rattle.replies.specs.Replies.{reply, refusal}
 use Rattle.replies.proofs.Laws as laws
 use Rattle.allocation.specs.Allocation.{rcid_of}
@@ -31,14 +35,12 @@ use Rattle.capacity_model.proofs.Setup.{ranges}
 use Rattle.capacity_model.proofs.Steps.{accepting}
 use Rattle.capacity.specs.declared.Record.{Record}
 use Rattle.capacity.specs.declared.WriteWords.{WriteWords}
-use Rattle.capacity.specs.View.{outcome, ack_of}
+use Rattle.capacity.specs.View.{outcome, reading_of}
 use Rattle.capacity.specs.Checked.{wrote}
 use Rattle.capacity.proofs.Checks.{setup_passes, state_tested}
 use Rattle.capacity.proofs.Calls.{call_failed}
 use Rattle.capacity_bytes.specs.Bytes.{Lent, lent, state_of, lent_of, Reply, pointers, reply_to, setup_for, byte_refusal, step_bytes}
-use Rattle.capacity_bytes.specs.View.{number_in, values_in, words_in, state_in, HeldIn, Checked}
-use Rattle.capacity_bytes.specs.declared.check.Check.{Check}
-use Rattle.capacity_bytes.specs.declared.check.Check.TheVariants as check
+use Rattle.capacity_bytes.specs.View.{number_in, values_in, words_in, state_in, HeldIn}
 use Rattle.capacity_bytes.proofs.Lengths.{in_range, long, words_sized}
 
 -- every call but a reset goes by the record's set-up
@@ -52,9 +54,10 @@ by_record l (evict unit) t = refl
 
 -- ---- refused by checks 1 and 2
 
-pub refused_12 : (l : Lent) (n : ℕ) → n ≡ byte_refusal (state_of l).setup l → (n ≡ 0 → ⊥) → (c : Call) → T (not (is_reset c)) → refusal n (pointers c) l ≡ step_bytes l c
-refused_12 l n e h c t =
-    laws.step_refused step pointers reply_to (λ k d. byte_refusal (setup_for k d) k) state_of l c n (e ∙ ap (λ (su : Setup). byte_refusal su l) (sym (by_record l c t))) h
+pub refused_12 : (l : Lent) (r : Refusal) → number_of r ≡ byte_refusal (state_of l).setup l → (c : Call) → T (not (is_reset c)) → refusal (number_of r) (pointers c) l ≡ step_bytes l c
+refused_12 l r e c t =
+    laws.step_refused step pointers reply_to (λ k d. byte_refusal (setup_for k d) k) state_of l c (number_of r) (e ∙ ap (λ (su : Setup). byte_refusal su l) (sym (by_record l c t)))
+    (λ z. omega (arith, number_pos r))
 
 -- ---- the record that the bytes hold, after checks 1 and 2
 
@@ -152,15 +155,7 @@ module _ {l : Lent} {r : Record} (h : HeldIn l r) where
       let g = f _ _ _ h.owners_held k e in
       rw (q₁, q₂, q₅, g.0, g.1, e.bytes_are, a, d, put_held 8 (lit< tt) (pair_of su v) x.mask l.masks (table_of 8 l.masks) h.masks_held) refl
 
--- a call without a pointer
-pub ack_none : (a : Ack) → [] ≡ values_in 0 (ack_of a)
-ack_none ack.Done = refl
-ack_none (ack.Refused why) = refl
-
--- ---- what the checks found
-
-pub passed_of : (l : Lent) (k : Check) (r : Record) → Checked l k → k ≡ check.Passed r → HeldIn l r
-passed_of l k r x e = subst (Checked l) e x
-
-pub failed_of : (l : Lent) (k : Check) (n : ℕ) → Checked l k → k ≡ check.Failed n → (c : Call) → T (not (is_reset c)) → refusal n (pointers c) l ≡ step_bytes l c
-failed_of l k n x e = subst (Checked l) e x
+-- the number of a reading
+pub reading_number : (r : Result ℕ Refusal) → refusal_in r ≡ number_in (reading_of r)
+reading_number (Ok v) = refl
+reading_number (Err why) = refl

@@ -1,6 +1,6 @@
 -- Checks 1 and 2 on bytes, both ways.
 use mathlib.Core.Path.{◌≡◌, refl}
-use mathlib.Core.Bool.{true, false, cond}
+use mathlib.Core.Bool.{Bool, true, false, cond}
 use borrow.Author.Tests.{eq-eqb, ne_eqb}
 use lib.Dec.{T, eqb, eqb→eq, lit<}
 use lib.ListN.{length}
@@ -24,8 +24,8 @@ module _ (su : Setup) (l : Lent) where
   pub wrong_setup : length l.«record» ≡ 80 → setup_ok su ≡ false → 1 ≡ byte_refusal su l
   wrong_setup e t = rw (refusal_is, eq-eqb (length l.«record») 80 e, t) refl
 
-  pub wrong_lengths : length l.«record» ≡ 80 → setup_ok su ≡ true → cond (bytes_fit su l) 0 2 ≡ byte_refusal su l
-  wrong_lengths e t = rw (refusal_is, eq-eqb (length l.«record») 80 e, t) refl
+  pub lengths_tested : length l.«record» ≡ 80 → setup_ok su ≡ true → (b : Bool) → b ≡ bytes_fit su l → cond b 0 2 ≡ byte_refusal su l
+  lengths_tested e t b f = rw (refusal_is, eq-eqb (length l.«record») 80 e, t, f) refl
 
   -- they pass
   module _ (z : byte_refusal su l ≡ 0) where

@@ -8,6 +8,9 @@ use lib.Seq.{length-take-le}
 use Rattle.words.specs.Words.{bytes_of_all}
 use Rattle.words.proofs.Table.{all_append, zero_bytes}
 use Rattle.words.proofs.Parts.{bytes_drop}
+use Rattle.access.specs.Refusals.{number_of}
+use Rattle.access.specs.declared.Refusal.{Refusal}
+use Rattle.access.proofs.Refusals.{number_pos}
 use Rattle.replies.specs.Replies.{reply, refusal}
 use Rattle.replies.proofs.Laws as laws
 use Rattle.capacity_masks.proofs.Words.{reset_words, first_inside}
@@ -53,9 +56,9 @@ masks_reset su r first rest e q =
 -- ---- the call
 
 module _ (l : Lent) (su : Setup) where
-  pub reset_refused : (n : ℕ) → n ≡ byte_refusal su l → (n ≡ 0 → ⊥) → refusal n 0 l ≡ step_bytes l (reset su)
+  pub reset_refused : (r : Refusal) → number_of r ≡ byte_refusal su l → refusal (number_of r) 0 l ≡ step_bytes l (reset su)
   unfolding setup_for
-  reset_refused n e h = laws.step_refused step pointers reply_to (λ k d. byte_refusal (setup_for k d) k) state_of l (reset su) n e h
+  reset_refused r e = laws.step_refused step pointers reply_to (λ k d. byte_refusal (setup_for k d) k) state_of l (reset su) (number_of r) e (λ z. omega (arith, number_pos r))
 
   -- the state after it
   abbrev fresh : State

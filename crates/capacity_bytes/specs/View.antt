@@ -1,6 +1,8 @@
 -- Lent bytes as a call finds and leaves them, the code's record beside them, and what checks 1 to 3 find.
-use Rattle.std.specs.Prelude.{◌≡◌, not, cond, List, [], ◌∷◌, ℕ, ◌*◌, T, length, replicate}
+use Rattle.std.specs.Prelude.{◌≡◌, not, cond, List, [], ◌∷◌, ℕ, ◌*◌, T, length, replicate, Result, Ok, Err}
 use Rattle.words.specs.Words.{table_of, Holds}
+use Rattle.access.specs.Refusals.{number_of}
+use Rattle.access.specs.declared.Refusal.{Refusal}
 use Rattle.replies.specs.Replies.{refusal}
 use Rattle.capacity_model.specs.Rules.{Setup, pairs, unit_count}
 use Rattle.capacity_model.specs.Calls.{Call, Answer, refused, done, value, allowed}
@@ -10,8 +12,6 @@ use Rattle.capacity.specs.declared.Record.{Record}
 use Rattle.capacity.specs.View.{state}
 use Rattle.capacity.specs.Checked.{Passed}
 use Rattle.capacity_bytes.specs.Bytes.{Lent, record_length, record_of, state_of, byte_refusal, pointers, step_bytes}
-use Rattle.capacity_bytes.specs.declared.check.Check.{Check}
-use Rattle.capacity_bytes.specs.declared.check.Check.TheVariants as check
 
 -- the number of an answer, and what it gives to as many pointers
 abbrev pub number_in : Answer → ℕ
@@ -54,6 +54,6 @@ pub record HeldIn (l : Lent) (r : Record) : Type 0 where
   pub passed : Passed (state_in l r)
 
 -- what checks 1 to 3 find: the record, or the refusal of every call but a reset
-abbrev pub Checked : Lent → Check → Type 0
-Checked l (check.Passed r) = HeldIn l r
-Checked l (check.Failed n) = (c : Call) → T (not (is_reset c)) → refusal n (pointers c) l ≡ step_bytes l c
+abbrev pub Checked : Lent → Result Record Refusal → Type 0
+Checked l (Ok r) = HeldIn l r
+Checked l (Err why) = (c : Call) → T (not (is_reset c)) → refusal (number_of why) (pointers c) l ≡ step_bytes l c

@@ -1,17 +1,18 @@
 // Cache events and flushes.
-ghost use Rattle.std.specs.Prelude.{◌≡◌, cond, List, [], ◌∷◌, ℕ};
+ghost use Rattle.std.specs.Prelude.{◌≡◌, cond, List, [], ℕ};
 ghost use Rattle.words.specs.Words.{bytes_of_all, Holds};
 ghost use Rattle.replies.specs.Replies.{reply};
+ghost use Rattle.access.specs.View.{refusal_in};
 ghost use Rattle.monitor.specs.Occupancy.{evicted};
 ghost use Rattle.units.specs.Owners.{flushed_owners};
 ghost use Rattle.units.specs.Counts.{flushed};
 ghost use Rattle.capacity_model.specs.Calls.{fill, evict};
+ghost use Rattle.capacity.specs.View.{filling_of};
 ghost use Rattle.capacity_bytes.specs.Bytes.{lent, step_bytes};
+ghost use Rattle.capacity_bytes.specs.View.{values_in};
 
-use crate::answer::Answered;
-use crate::check::{Check, checked};
-use access::{Ack, known_at, refusal_number};
-use capacity::Filling;
+use crate::check::checked;
+use access::{Refusal, known_at};
 use words::word64;
 
 // FLUSH_RCID where `flushes` holds.
@@ -24,6 +25,7 @@ pub fn flush_if(flushes: bool, owners: &mut [u8], counters: &mut [u8], events: &
     }
 }
 
+// Whether the fill is allowed.
 pub fn fill(
     record: &[u8],
     masks: &[u8],
@@ -34,38 +36,19 @@ pub fn fill(
     mcid: u64,
     at: u64,
     unit: u64,
-) -> Answered
-    ensures { reply result.number (result.value ∷ []) (lent «record».now masks.now counters.new events.now owners.new) ≡ step_bytes (lent «record».now masks.now counters.old events.now owners.old) (fill rcid mcid at unit) }
+) -> Result<bool, Refusal>
+    ensures { reply (refusal_in result) (values_in 1 (filling_of result)) (lent «record».now masks.now counters.new events.now owners.new) ≡ step_bytes (lent «record».now masks.now counters.old events.now owners.old) (fill rcid mcid at unit) }
 {
-    match checked(record, masks, counters, events, owners) {
-        Check::Failed(why) => Answered {
-            number: why,
-            value: 0,
-        },
-        Check::Passed(held) => {
-            let setup = held.setup;
-            let mask = word64(masks, setup.pair_at(rcid, at));
-            match held.filling(mask, rcid, mcid, unit) {
-                Filling::Allowed => {
-                    let known = known_at(setup.na, at);
-                    let i = unit as usize;
-                    unit_bytes::fill(setup.w, owners, counters, events, rcid, mcid, known, i);
-                    Answered {
-                        number: 0,
-                        value: 1,
-                    }
-                }
-                Filling::NotAllowed => Answered {
-                    number: 0,
-                    value: 0,
-                },
-                Filling::Refused(why) => Answered {
-                    number: refusal_number(why),
-                    value: 0,
-                },
-            }
-        }
+    let held = checked(record, masks, counters, events, owners)?;
+    let setup = held.setup;
+    let mask = word64(masks, setup.pair_at(rcid, at));
+    let allowed = held.filling(mask, rcid, mcid, unit)?;
+    if allowed {
+        let known = known_at(setup.na, at);
+        let i = unit as usize;
+        unit_bytes::fill(setup.w, owners, counters, events, rcid, mcid, known, i);
     }
+    Ok(allowed)
 }
 
 pub fn evict(
@@ -75,17 +58,11 @@ pub fn evict(
     events: &[u8],
     owners: &mut [u8],
     unit: u64,
-) -> u64
-    ensures { reply result [] (lent «record».now masks.now counters.new events.now owners.new) ≡ step_bytes (lent «record».now masks.now counters.old events.now owners.old) (evict unit) }
+) -> Result<(), Refusal>
+    ensures { reply (refusal_in result) [] (lent «record».now masks.now counters.new events.now owners.new) ≡ step_bytes (lent «record».now masks.now counters.old events.now owners.old) (evict unit) }
 {
-    match checked(record, masks, counters, events, owners) {
-        Check::Failed(why) => why,
-        Check::Passed(held) => match held.evicting(unit) {
-            Ack::Done => {
-                unit_bytes::evict(owners, counters, events, unit as usize);
-                0
-            }
-            Ack::Refused(why) => refusal_number(why),
-        },
-    }
+    let held = checked(record, masks, counters, events, owners)?;
+    held.evicting(unit)?;
+    unit_bytes::evict(owners, counters, events, unit as usize);
+    Ok(())
 }

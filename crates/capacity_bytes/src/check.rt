@@ -8,8 +8,8 @@ ghost use Rattle.capacity.specs.View.{state};
 ghost use Rattle.capacity_bytes.specs.Bytes.{lent};
 ghost use Rattle.capacity_bytes.specs.View.{Checked};
 
-use crate::lent::record_refusal;
-use crate::record::load_record;
+use crate::lent::load;
+use access::Refusal;
 use capacity::Record;
 use capacity_masks::union_ok;
 use codes::Resource;
@@ -18,9 +18,9 @@ use unit_bytes::owners_ok;
 use words::union64;
 
 // Check 3.
-fn well_formed(held: Record, masks: &[u8], counters: &[u8], events: &[u8], owners: &[u8]) -> bool
-    requires { Ranges (setup_of held.setup) × Sized (setup_of held.setup) (table_of 8 masks.now) (table_of 8 counters.now) (table_of 2 events.now) (table_of 4 owners.now) }
-    ensures { result ≡ well_formed (state held (table_of 8 masks.now) (table_of 8 counters.now) (table_of 2 events.now) (table_of 4 owners.now)) }
+fn well_formed(held: &Record, masks: &[u8], counters: &[u8], events: &[u8], owners: &[u8]) -> bool
+    requires { Ranges (setup_of held.now.setup) × Sized (setup_of held.now.setup) (table_of 8 masks.now) (table_of 8 counters.now) (table_of 2 events.now) (table_of 4 owners.now) }
+    ensures { result ≡ well_formed (state held.now (table_of 8 masks.now) (table_of 8 counters.now) (table_of 2 events.now) (table_of 4 owners.now)) }
 {
     let setup = held.setup;
     held.judge(
@@ -31,24 +31,20 @@ fn well_formed(held: Record, masks: &[u8], counters: &[u8], events: &[u8], owner
     )
 }
 
-// The record, or the refusal's number.
-#[derive(Clone, Copy)]
-pub enum Check {
-    Passed(Record),
-    Failed(u64),
-}
-
-pub fn checked(record: &[u8], masks: &[u8], counters: &[u8], events: &[u8], owners: &[u8]) -> Check
+// Checks 1 to 3: the record.
+pub fn checked(
+    record: &[u8],
+    masks: &[u8],
+    counters: &[u8],
+    events: &[u8],
+    owners: &[u8],
+) -> Result<Record, Refusal>
     ensures { Checked (lent «record».now masks.now counters.now events.now owners.now) result }
 {
-    let why = record_refusal(record, masks, counters, events, owners);
-    if why != 0 {
-        return Check::Failed(why);
-    }
-    let held = load_record(record);
-    if well_formed(held, masks, counters, events, owners) {
-        Check::Passed(held)
+    let held = load(record, masks, counters, events, owners)?;
+    if well_formed(&held, masks, counters, events, owners) {
+        Ok(held)
     } else {
-        Check::Failed(3)
+        Err(Refusal::State)
     }
 }

@@ -1,7 +1,6 @@
 // The capacity controller where C lends record and tables as little-endian bytes: a call loads the words that it names, does with them what `capacity` does, and stores them.
 #![tactic(auto)]
 
-mod answer;
 mod cache;
 mod check;
 mod lent;
@@ -9,6 +8,5 @@ mod record;
 mod registers;
 pub mod reset;
 
-pub use answer::Answered;
 pub use cache::{evict, fill};
 pub use registers::{read, write};

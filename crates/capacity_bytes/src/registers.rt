@@ -1,13 +1,16 @@
 // Reads and writes of the registers.
-ghost use Rattle.std.specs.Prelude.{◌≡◌, [], ◌∷◌};
+ghost use Rattle.std.specs.Prelude.{◌≡◌, []};
+ghost use Rattle.access.specs.View.{refusal_in};
 ghost use Rattle.replies.specs.Replies.{reply};
 ghost use Rattle.capacity_model.specs.Calls.{read, write};
+ghost use Rattle.capacity.specs.View.{reading_of};
 ghost use Rattle.capacity_bytes.specs.Bytes.{lent, step_bytes};
+ghost use Rattle.capacity_bytes.specs.View.{values_in};
 
-use crate::answer::{Answered, ack_number, reading_numbers};
 use crate::cache::flush_if;
-use crate::check::{Check, checked};
+use crate::check::checked;
 use crate::record::store_record;
+use access::Refusal;
 use capacity_masks::{named_pair, named_rcid};
 use monitor::named_mcid;
 use words::{put16, put64, word16, word64};
@@ -20,16 +23,11 @@ pub fn read(
     owners: &[u8],
     size: u64,
     offset: u64,
-) -> Answered
-    ensures { reply result.number (result.value ∷ []) (lent «record».now masks.now counters.now events.now owners.now) ≡ step_bytes (lent «record».now masks.now counters.now events.now owners.now) (read size offset) }
+) -> Result<u64, Refusal>
+    ensures { reply (refusal_in result) (values_in 1 (reading_of result)) (lent «record».now masks.now counters.now events.now owners.now) ≡ step_bytes (lent «record».now masks.now counters.now events.now owners.now) (read size offset) }
 {
-    match checked(record, masks, counters, events, owners) {
-        Check::Failed(why) => Answered {
-            number: why,
-            value: 0,
-        },
-        Check::Passed(held) => reading_numbers(held.reading(size, offset)),
-    }
+    let held = checked(record, masks, counters, events, owners)?;
+    held.reading(size, offset)
 }
 
 pub fn write(
@@ -41,31 +39,24 @@ pub fn write(
     size: u64,
     offset: u64,
     value: u64,
-) -> u64
-    ensures { reply result [] (lent «record».new masks.new counters.new events.new owners.new) ≡ step_bytes (lent «record».old masks.old counters.old events.old owners.old) (write size offset value) }
+) -> Result<(), Refusal>
+    ensures { reply (refusal_in result) [] (lent «record».new masks.new counters.new events.new owners.new) ≡ step_bytes (lent «record».old masks.old counters.old events.old owners.old) (write size offset value) }
 {
-    match checked(record, masks, counters, events, owners) {
-        Check::Failed(why) => why,
-        Check::Passed(held) => {
-            let p = named_pair(held.setup, value);
-            let i = named_mcid(value);
-            let wrote = held.write_words(
-                word64(masks, p),
-                word64(counters, i),
-                word16(events, i),
-                size,
-                offset,
-                value,
-            );
-            let left = wrote.left;
-            let ack = wrote.ack;
-            let after = left.record;
-            put64(masks, p, left.mask);
-            put64(counters, i, left.counter);
-            put16(events, i, left.setting as u64);
-            flush_if(left.flushes, owners, counters, events, named_rcid(value));
-            store_record(after, record);
-            ack_number(ack)
-        }
-    }
+    let held = checked(record, masks, counters, events, owners)?;
+    let p = named_pair(held.setup, value);
+    let i = named_mcid(value);
+    let left = held.write_words(
+        word64(masks, p),
+        word64(counters, i),
+        word16(events, i),
+        size,
+        offset,
+        value,
+    )?;
+    put64(masks, p, left.mask);
+    put64(counters, i, left.counter);
+    put16(events, i, left.setting as u64);
+    flush_if(left.flushes, owners, counters, events, named_rcid(value));
+    store_record(left.record, record);
+    Ok(())
 }

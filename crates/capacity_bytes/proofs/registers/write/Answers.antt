@@ -1,4 +1,5 @@
 use Rattle.std.proofs.Common.{rules}
+use Rattle.std.proofs.lemmas.Result.{err_from_is_err_and}
 use mathlib.Core.Path.{refl, sym}
 use native.Mathlib.Omega.{arith}
 use Rattle.words.proofs.Held.{length_held}
@@ -6,28 +7,33 @@ use Rattle.capacity_model.specs.Calls.{write}
 use Rattle.capacity.proofs.Checks.{passes}
 use Rattle.capacity.proofs.Calls.{words_in}
 use Rattle.capacity_masks.specs.View.{setup_of}
-use Rattle.capacity_bytes.proofs.Calls.{answered, write_bytes, ack_none, passed_of, failed_of}
+use Rattle.capacity_bytes.proofs.Calls.{answered, read_bytes, write_bytes}
 use Rattle.capacity_bytes.proofs.registers.write.Goals as goal
 
 pub named_pair-p-requires : goal.named_pair-p-requires
-named_pair-p-requires c = (passes _ (passed_of _ _ _ c.checked.ensures c.in-Passed.is).passed).ranges
+named_pair-p-requires c = (passes _ c.in_ok-held.ensures.passed).ranges
 
-pub write_words-wrote-requires : goal.write_words-wrote-requires
-write_words-wrote-requires c = (passes _ (passed_of _ _ _ c.checked.ensures c.in-Passed.is).passed).ranges
+pub write_words-requires : goal.write_words-requires
+write_words-requires c = (passes _ c.in_ok-held.ensures.passed).ranges
+
+pub returns-in_err-left : goal.returns-in_err-left
+returns-in_err-left c =
+    let h = c.in_ok-held.ensures in
+    let p = err_from_is_err_and c.from_residual-in_err-left.result c.from_residual-in_err-left.ensures.1 in
+    let n = words_in _ _ _ _ _ _ _ c.named_pair-p.ensures c.named_mcid-i.ensures c.word64.ensures c.word64-2.ensures c.word16.ensures in
+    rw (p.1, p.2) (answered h (write _ _ _) tt _ _ (c.in_err-left.ensures _ _ _ _ h.passed n) _ (read_bytes h) _ _ refl refl)
 
 pub store_record-requires : goal.store_record-requires
-store_record-requires c = sym (length_held 8 _ _ (passed_of _ _ _ c.checked.ensures c.in-Passed.is).record_held)
+store_record-requires c = sym (length_held 8 _ _ c.in_ok-held.ensures.record_held)
 
-pub returns-in-Failed : goal.returns-in-Failed
-returns-in-Failed c = failed_of _ _ _ c.checked.ensures c.in-Failed.is (write _ _ _) tt
-
-pub returns-in-Passed : goal.returns-in-Passed
-returns-in-Passed c =
-    let h = passed_of _ _ _ c.checked.ensures c.in-Passed.is in
+pub returns : goal.returns
+returns c =
+    let h = c.in_ok-held.ensures in
     let p = c.named_pair-p.ensures in
     let i = c.named_mcid-i.ensures in
-    let n = words_in _ _ _ _ _ _ _ p i c.word64.ensures c.word64-in-Passed.ensures c.word16.ensures in
-    answered h (write _ _ _) tt _ _ (c.write_words-wrote.ensures _ _ _ _ h.passed n) _
-    (write_bytes h (setup_of c.in-Passed.held.setup) c.write_words-wrote.result.left _ _ _ _ _ _ _ _ _ _ _ p i c.named_rcid.ensures (search rules) (omega (arith, c.write_words-wrote.type_inv))
-    c.store_record.ensures c.put64.ensures c.put64-in-Passed.ensures c.put16.ensures c.flush_if.ensures refl)
-    _ _ c.ack_number.ensures (ack_none c.write_words-wrote.result.ack)
+    let x = c.in_ok-left.left in
+    let n = words_in _ _ _ _ _ _ _ p i c.word64.ensures c.word64-2.ensures c.word16.ensures in
+    answered h (write _ _ _) tt _ _ (c.in_ok-left.ensures _ _ _ _ h.passed n) _
+    (write_bytes h (setup_of c.in_ok-held.held.setup) x _ _ _ _ _ _ _ _ _ _ _ p i c.named_rcid.ensures (search rules) (search rules)
+    c.store_record.ensures c.put64.ensures c.put64-2.ensures c.put16.ensures c.flush_if.ensures refl)
+    _ _ refl refl
