@@ -13,7 +13,7 @@ ghost use Rattle.capacity_bytes.specs.View.{values_in};
 
 use crate::check::checked;
 use access::{Refusal, known_at};
-use words::word64;
+use words::word;
 
 // FLUSH_RCID where `flushes` holds.
 pub fn flush_if(flushes: bool, owners: &mut [u8], counters: &mut [u8], events: &[u8], rcid: u64)
@@ -41,7 +41,7 @@ pub fn fill(
 {
     let held = checked(record, masks, counters, events, owners)?;
     let setup = held.setup;
-    let mask = word64(masks, setup.pair_at(rcid, at));
+    let mask = word(masks, setup.pair_at(rcid, at), 0);
     let allowed = held.filling(mask, rcid, mcid, unit)?;
     if allowed {
         let known = known_at(setup.na, at);

@@ -6,7 +6,7 @@ ghost use Rattle.capacity_masks.specs.View.{setup_of};
 ghost use Rattle.capacity_bytes.specs.Bytes.{lent, state_of, byte_refusal};
 ghost use Rattle.capacity_bytes.specs.View.{words_in};
 
-use crate::record::load_record;
+use crate::record::{RECORD_BYTES, load_record};
 use access::Refusal;
 use capacity::Record;
 use capacity_masks::Setup;
@@ -22,7 +22,7 @@ pub fn check_lengths(
 ) -> Result<(), Refusal>
     ensures { refusal_in result ≡ byte_refusal (setup_of setup) (lent «record».now masks.now counters.now events.now owners.now) }
 {
-    if record.len() != 80 {
+    if record.len() != RECORD_BYTES {
         return Err(Refusal::Setup);
     }
     if !setup.in_range() {
@@ -49,7 +49,7 @@ pub fn load(
     ensures refusal { refusal_in result ≡ byte_refusal (state_of (lent «record».now masks.now counters.now events.now owners.now)).setup (lent «record».now masks.now counters.now events.now owners.now) }
     ensures loaded { IfOk result (λ r. words_in r ≡ words_of 8 10 «record».now) }
 {
-    if record.len() != 80 {
+    if record.len() != RECORD_BYTES {
         return Err(Refusal::Setup);
     }
     let held = load_record(record);

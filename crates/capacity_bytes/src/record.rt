@@ -5,14 +5,17 @@ ghost use Rattle.capacity_bytes.specs.View.{words_in};
 
 use capacity::Record;
 use capacity_masks::Setup;
-use words::{decode64, encode64};
+use words::{decode, encode};
+
+// Ten words of 8 bytes.
+pub const RECORD_BYTES: usize = 80;
 
 pub fn load_record(bytes: &[u8]) -> Record
     requires { length bytes.now ≡ 80 }
     ensures { words_in result ≡ words_of 8 10 bytes.now }
 {
     let mut w = [0u64; 10];
-    decode64(bytes, &mut w);
+    decode(bytes, &mut w);
     let setup = Setup {
         ncblks: w[0],
         nr: w[1],
@@ -47,5 +50,5 @@ pub fn store_record(record: Record, bytes: &mut [u8])
         record.alloc_ctl,
         record.block_mask,
     ];
-    encode64(&w, bytes);
+    encode(&w, bytes);
 }

@@ -13,7 +13,7 @@ use crate::record::store_record;
 use access::Refusal;
 use capacity_masks::{named_pair, named_rcid};
 use monitor::named_mcid;
-use words::{put16, put64, word16, word64};
+use words::{put, word};
 
 pub fn read(
     record: &[u8],
@@ -46,16 +46,16 @@ pub fn write(
     let p = named_pair(held.setup, value);
     let i = named_mcid(value);
     let left = held.write_words(
-        word64(masks, p),
-        word64(counters, i),
-        word16(events, i),
+        word(masks, p, 0),
+        word(counters, i, 0),
+        word(events, i, 0),
         size,
         offset,
         value,
     )?;
-    put64(masks, p, left.mask);
-    put64(counters, i, left.counter);
-    put16(events, i, left.setting as u64);
+    put(masks, p, left.mask);
+    put(counters, i, left.counter);
+    put(events, i, left.setting);
     flush_if(left.flushes, owners, counters, events, named_rcid(value));
     store_record(left.record, record);
     Ok(())

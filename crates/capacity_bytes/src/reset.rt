@@ -14,7 +14,7 @@ use crate::record::store_record;
 use access::Refusal;
 use capacity::Record;
 use capacity_masks::{Setup, all_blocks};
-use words::encode64;
+use words::encode;
 
 // The masks of a reset: every block for each AT of RCID 0, and else none.
 fn reset_masks(setup: Setup, masks: &mut [u8])
@@ -25,7 +25,7 @@ fn reset_masks(setup: Setup, masks: &mut [u8])
     let end = na * 8;
     let row = [all_blocks(setup); 8];
     masks.fill(0);
-    encode64(&row[..na], &mut masks[..end]);
+    encode(&row[..na], &mut masks[..end]);
 }
 
 pub fn reset(

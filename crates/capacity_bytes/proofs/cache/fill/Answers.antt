@@ -21,7 +21,7 @@ returns-in_err-allowed c =
     let h = c.in_ok-held.ensures in
     let p = err_from_is_err_and c.from_residual-in_err-allowed.result c.from_residual-in_err-allowed.ensures.1 in
     rw (p.1, p.2)
-    (answered h (fill _ _ _ _) tt _ _ (c.in_err-allowed.ensures _ _ _ _ c.args.at h.passed (λ e. rw (c.word64-mask.ensures, c.pair_at.ensures e))).answers _ (read_bytes h) _ _ refl refl)
+    (answered h (fill _ _ _ _) tt _ _ (c.in_err-allowed.ensures _ _ _ _ c.args.at h.passed (λ e. rw (c.word-mask.ensures, c.pair_at.ensures e))).answers _ (read_bytes h) _ _ refl refl)
 
 pub fill-requires : goal.fill-requires
 unfolding word_at
@@ -29,7 +29,7 @@ fill-requires c =
     let a = c.args in
     let h = c.in_ok-held.ensures in
     let p = passes _ h.passed in
-    let n = (c.in_ok-allowed.ensures _ _ _ _ a.at h.passed (λ e. rw (c.word64-mask.ensures, c.pair_at.ensures e))).named in
+    let n = (c.in_ok-allowed.ensures _ _ _ _ a.at h.passed (λ e. rw (c.word-mask.ensures, c.pair_at.ensures e))).named in
     let r = p.ranges in (
       record {
         rcid_low = omega (arith, n.rcid_in, r.nr_high);
@@ -44,12 +44,12 @@ unfolding word_at
 returns-then-allowed c =
     let h = c.in_ok-held.ensures in
     let v = c.fill.ensures _ _ _ h.owners_held h.counters_held h.events_held in
-    let f = c.in_ok-allowed.ensures _ _ _ _ c.args.at h.passed (λ e. rw (c.word64-mask.ensures, c.pair_at.ensures e)) in
+    let f = c.in_ok-allowed.ensures _ _ _ _ c.args.at h.passed (λ e. rw (c.word-mask.ensures, c.pair_at.ensures e)) in
     answered h (fill _ _ _ _) tt _ _ (fill_performed _ _ _ _ _ _ f c.if-allowed.true _ _ _ c.known_at-known.ensures refl refl) _ (unit_bytes h _ _ _ _ v.1 v.0) _ _ refl refl
 
 pub returns-else-allowed : goal.returns-else-allowed
 unfolding word_at
 returns-else-allowed c =
     let h = c.in_ok-held.ensures in
-    let f = c.in_ok-allowed.ensures _ _ _ _ c.args.at h.passed (λ e. rw (c.word64-mask.ensures, c.pair_at.ensures e)) in
+    let f = c.in_ok-allowed.ensures _ _ _ _ c.args.at h.passed (λ e. rw (c.word-mask.ensures, c.pair_at.ensures e)) in
     answered h (fill _ _ _ _) tt _ _ (fill_kept _ _ _ _ _ _ f c.if-allowed.false) _ (read_bytes h) _ _ refl refl

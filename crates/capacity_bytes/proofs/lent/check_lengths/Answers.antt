@@ -8,11 +8,11 @@ use Rattle.capacity_bytes.specs.Bytes.{bytes_fit}
 use Rattle.capacity_bytes.proofs.Lengths.{wrong_record, wrong_setup, lengths_tested}
 use Rattle.capacity_bytes.proofs.lent.check_lengths.Goals as goal
 
-pub returns-then-record-ne80 : goal.returns-then-record-ne80
-returns-then-record-ne80 c = wrong_record _ _ c.if-record-ne80.true
+pub returns-then-record-ne-RECORD_BYTES : goal.returns-then-record-ne-RECORD_BYTES
+returns-then-record-ne-RECORD_BYTES c = wrong_record _ _ c.if-record-ne-RECORD_BYTES.true
 
 pub returns-then-not-in_range : goal.returns-then-not-in_range
-returns-then-not-in_range c = wrong_setup _ _ c.if-record-ne80.false (sym c.in_range.ensures ∙ c.if-not-in_range.true)
+returns-then-not-in_range c = wrong_setup _ _ c.if-record-ne-RECORD_BYTES.false (sym c.in_range.ensures ∙ c.if-not-in_range.true)
 
 pub pairs-pairs-requires : goal.pairs-pairs-requires
 pairs-pairs-requires c = ranges _ (of_true (sym c.in_range.ensures ∙ c.if-not-in_range.false))
@@ -30,10 +30,10 @@ pub returns-then-fit : goal.returns-then-fit
 unfolding bytes_fit
 returns-then-fit c =
     let fit = rw (c.pairs-pairs.ensures.is, c.unit_count-units.ensures.is) at c.if-fit.true in
-    lengths_tested _ _ c.if-record-ne80.false (sym c.in_range.ensures ∙ c.if-not-in_range.false) _ (sym fit)
+    lengths_tested _ _ c.if-record-ne-RECORD_BYTES.false (sym c.in_range.ensures ∙ c.if-not-in_range.false) _ (sym fit)
 
 pub returns-else-fit : goal.returns-else-fit
 unfolding bytes_fit
 returns-else-fit c =
     let fit = rw (c.pairs-pairs.ensures.is, c.unit_count-units.ensures.is) at c.if-fit.false in
-    lengths_tested _ _ c.if-record-ne80.false (sym c.in_range.ensures ∙ c.if-not-in_range.false) _ (sym fit)
+    lengths_tested _ _ c.if-record-ne-RECORD_BYTES.false (sym c.in_range.ensures ∙ c.if-not-in_range.false) _ (sym fit)

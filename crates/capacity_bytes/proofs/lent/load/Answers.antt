@@ -3,8 +3,8 @@ use Rattle.capacity_bytes.specs.Bytes.{state_of}
 use Rattle.capacity_bytes.proofs.Lengths.{wrong_record}
 use Rattle.capacity_bytes.proofs.lent.load.Goals as goal
 
-pub returns-then-record-ne80-clause-refusal : goal.returns-then-record-ne80-clause-refusal
-returns-then-record-ne80-clause-refusal c = wrong_record _ _ c.if-record-ne80.true
+pub returns-then-record-ne-RECORD_BYTES-clause-refusal : goal.returns-then-record-ne-RECORD_BYTES-clause-refusal
+returns-then-record-ne-RECORD_BYTES-clause-refusal c = wrong_record _ _ c.if-record-ne-RECORD_BYTES.true
 
 pub returns-in_err-check_lengths-clause-refusal : goal.returns-in_err-check_lengths-clause-refusal
 unfolding state_of
