@@ -13,7 +13,7 @@ use access::Refusal;
 use allocation::control_ok;
 use capacity_masks::{Setup, mask_of, masks_ok};
 use codes::Resource;
-use monitor::{capacity_counters_ok, events_ok};
+use monitor::{counters_ok, events_ok};
 use unit_tables::owners_ok;
 
 impl Record {
@@ -60,7 +60,7 @@ impl Record {
         let setup = self.setup;
         self.judge(
             masks_ok(setup, masks),
-            capacity_counters_ok(counters, setup.w as u32),
+            counters_ok(Resource::Capacity, counters, setup.w as u32),
             events_ok(events, setup.na as u16, Resource::Capacity),
             owners_ok(owners, setup.nr as u32, setup.nm as u32, setup.na as u32),
         )

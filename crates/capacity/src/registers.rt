@@ -13,8 +13,9 @@ use crate::cache::flush_if;
 use crate::{Record, WriteWords};
 use access::{Refusal, check_read, check_write, part, replaced};
 use capacity_masks::{alloc_after, mask_of, named_pair, named_rcid};
+use codes::Resource;
 use fields::CapacityCapabilities;
-use monitor::{capacity_status, mon_after, named_mcid};
+use monitor::{mon_after, mon_status, named_mcid};
 use tables::{put, word};
 
 impl Record {
@@ -98,7 +99,7 @@ impl Record {
                 self.block_mask = mask_of(setup, word);
             }
             8 => {
-                let status = capacity_status(setup.na, setup.nm, value);
+                let status = mon_status(Resource::Capacity, setup.na, setup.nm, value);
                 let done = mon_after(setup.na, status, self.mon_ctr_val, counter, setting, value);
                 self.mon_ctl = done.ctl;
                 self.mon_ctr_val = done.value;

@@ -9,7 +9,7 @@ pub returns-in-32 : goal.returns-in-32
 returns-in-32 c = λ ms ns es os n. mask_stored (state c.args.self ms ns es os) _ _ _ _ _ _ n _ _ c.in-32.is c.replaced-word.ensures c.mask_of.ensures
 
 pub returns-in-8 : goal.returns-in-8
-returns-in-8 c = λ ms ns es os n. mon_stored (state c.args.self ms ns es os) _ _ _ _ _ _ n _ _ c.in-8.is c.capacity_status-status.ensures c.mon_after-done.ensures
+returns-in-8 c = λ ms ns es os n. mon_stored (state c.args.self ms ns es os) _ _ _ _ _ _ n _ _ c.in-8.is c.mon_status-status.ensures c.mon_after-done.ensures
 
 pub returns-in_default : goal.returns-in_default
 returns-in_default c =

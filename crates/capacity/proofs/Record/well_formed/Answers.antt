@@ -10,7 +10,7 @@ returns c =
     c.judge.ensures _ _ _ _ (record {
       sized = c.requires.1;
       masks_are = c.masks_ok.ensures;
-      counters_are = c.capacity_counters_ok.ensures;
+      counters_are = c.counters_ok.ensures;
       events_are = c.events_ok.ensures;
       owners_are = c.owners_ok.ensures;
     })
