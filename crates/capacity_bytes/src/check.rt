@@ -13,7 +13,7 @@ use access::Refusal;
 use capacity::Record;
 use capacity_masks::union_ok;
 use codes::Resource;
-use monitor_bytes::{capacity_counters_ok, events_ok};
+use monitor_bytes::{counters_ok, events_ok};
 use unit_bytes::owners_ok;
 use words::union64;
 
@@ -25,7 +25,7 @@ fn well_formed(held: &Record, masks: &[u8], counters: &[u8], events: &[u8], owne
     let setup = held.setup;
     held.judge(
         union_ok(setup, union64(masks)),
-        capacity_counters_ok(counters, setup.w as u32),
+        counters_ok(Resource::Capacity, counters, setup.w as u32),
         events_ok(events, setup.na as u16, Resource::Capacity),
         owners_ok(owners, setup.nr as u32, setup.nm as u32, setup.na as u32),
     )

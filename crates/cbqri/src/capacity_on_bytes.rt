@@ -4,6 +4,7 @@ ghost use Rattle.capacity_model.specs.Calls.{reset, read, write, fill, evict};
 ghost use Rattle.replies.specs.Replies.{reply};
 ghost use Rattle.capacity_bytes.specs.Bytes.{setup_by, step_bytes, lent};
 
+use crate::number;
 use capacity_masks::Setup;
 
 #[unsafe(no_mangle)]
@@ -30,7 +31,9 @@ pub extern "C" fn cbqri_capacity_reset(
         w,
         units: u,
     };
-    capacity_bytes::reset::reset(setup, record, masks, counters, events, owners)
+    number(capacity_bytes::reset::reset(
+        setup, record, masks, counters, events, owners,
+    ))
 }
 
 #[unsafe(no_mangle)]
@@ -46,9 +49,16 @@ pub extern "C" fn cbqri_capacity_read(
 ) -> u64
     ensures { reply result (value.new ∷ []) (lent «record».now masks.now counters.now events.now owners.now) ≡ step_bytes (lent «record».now masks.now counters.now events.now owners.now) (read size offset) }
 {
-    let answered = capacity_bytes::read(record, masks, counters, events, owners, size, offset);
-    *value = answered.value;
-    answered.number
+    match capacity_bytes::read(record, masks, counters, events, owners, size, offset) {
+        Ok(word) => {
+            *value = word;
+            0
+        }
+        Err(why) => {
+            *value = 0;
+            u64::from(why)
+        }
+    }
 }
 
 #[unsafe(no_mangle)]
@@ -64,7 +74,9 @@ pub extern "C" fn cbqri_capacity_write(
 ) -> u64
     ensures { reply result [] (lent «record».new masks.new counters.new events.new owners.new) ≡ step_bytes (lent «record».old masks.old counters.old events.old owners.old) (write size offset value) }
 {
-    capacity_bytes::write(record, masks, counters, events, owners, size, offset, value)
+    number(capacity_bytes::write(
+        record, masks, counters, events, owners, size, offset, value,
+    ))
 }
 
 #[unsafe(no_mangle)]
@@ -82,11 +94,19 @@ pub extern "C" fn cbqri_capacity_fill(
 ) -> u64
     ensures { reply result (allowed.new ∷ []) (lent «record».new masks.now counters.new events.now owners.new) ≡ step_bytes (lent «record».old masks.now counters.old events.now owners.old) (fill rcid mcid at unit) }
 {
-    let answered = capacity_bytes::fill(
+    let filled = capacity_bytes::fill(
         record, masks, counters, events, owners, rcid, mcid, at, unit,
     );
-    *allowed = answered.value;
-    answered.number
+    match filled {
+        Ok(fits) => {
+            *allowed = u64::from(fits);
+            0
+        }
+        Err(why) => {
+            *allowed = 0;
+            u64::from(why)
+        }
+    }
 }
 
 #[unsafe(no_mangle)]
@@ -100,5 +120,7 @@ pub extern "C" fn cbqri_capacity_evict(
 ) -> u64
     ensures { reply result [] (lent «record».new masks.now counters.new events.now owners.new) ≡ step_bytes (lent «record».old masks.now counters.old events.now owners.old) (evict unit) }
 {
-    capacity_bytes::evict(record, masks, counters, events, owners, unit)
+    number(capacity_bytes::evict(
+        record, masks, counters, events, owners, unit,
+    ))
 }
