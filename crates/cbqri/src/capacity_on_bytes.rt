@@ -31,9 +31,7 @@ pub extern "C" fn cbqri_capacity_reset(
         w,
         units: u,
     };
-    number(capacity_bytes::reset::reset(
-        setup, record, masks, counters, events, owners,
-    ))
+    number(capacity_bytes::reset::reset(setup, record, masks, counters, events, owners))
 }
 
 #[unsafe(no_mangle)]
@@ -74,9 +72,7 @@ pub extern "C" fn cbqri_capacity_write(
 ) -> u64
     ensures { reply result [] (lent «record».new masks.new counters.new events.new owners.new) ≡ step_bytes (lent «record».old masks.old counters.old events.old owners.old) (write size offset value) }
 {
-    number(capacity_bytes::write(
-        record, masks, counters, events, owners, size, offset, value,
-    ))
+    number(capacity_bytes::write(record, masks, counters, events, owners, size, offset, value))
 }
 
 #[unsafe(no_mangle)]
@@ -120,7 +116,5 @@ pub extern "C" fn cbqri_capacity_evict(
 ) -> u64
     ensures { reply result [] (lent «record».new masks.now counters.new events.now owners.new) ≡ step_bytes (lent «record».old masks.now counters.old events.now owners.old) (evict unit) }
 {
-    number(capacity_bytes::evict(
-        record, masks, counters, events, owners, unit,
-    ))
+    number(capacity_bytes::evict(record, masks, counters, events, owners, unit))
 }
