@@ -1,5 +1,6 @@
 -- A call on bytes: refused by checks 1 to 3, or answered by the model's step.
-use mathlib.Core.Path.{◌≡◌, refl, ap, subst, ◌∙◌}
+use Rattle.std.specs.Prelude.{Result, Ok, Err}
+use mathlib.Core.Path.{◌≡◌, refl, ap, ◌∙◌}
 use mathlib.Core.Bool.{true, false, not, cond, ◌||◌}
 use mathlib.Core.List.{List, [], ◌∷◌}
 use Prim.Native.Nat.{ℕ, ◌-◌, ◌≤◌, ◌<◌}
@@ -15,8 +16,7 @@ use Rattle.access.specs.Checks.{first}
 use Rattle.access.specs.Pairs.{known_at}
 use Rattle.access.specs.Refusals.{number_of}
 use Rattle.access.specs.declared.Refusal.{Refusal}
-use Rattle.access.specs.declared.Reading.{Reading}
-use Rattle.access.specs.declared.Reading.TheVariants as reading
+use Rattle.access.specs.View.{refusal_in}
 use Rattle.devices.specs.declared.Identifiers.{Identifiers}
 use Rattle.devices.specs.Devices.{identifiers_in, out_of_range}
 use Rattle.monitor.specs.Monitor.{mon_status, mon_after}
@@ -27,7 +27,7 @@ use Rattle.monitor.specs.declared.Registers.{Registers}
 use Rattle.monitor_bytes.specs.Monitor as monitor
 use Rattle.bandwidth_settings.specs.declared.Written.{Written}
 use Rattle.bandwidth_grants.specs.declared.Given.{Given}
-use Rattle.replies.specs.Replies.{reply, refusal}
+use Rattle.replies.specs.Replies.{reply, refusal, value_in}
 use Rattle.bandwidth_model.specs.Rules.{Setup, pairs, bw_word}
 use Rattle.bandwidth_model.specs.Calls.{Call, read, write, request, device_request, end_window, wait, need, refused, done, value, granted}
 use Rattle.bandwidth_model.specs.Claim.{is_reset}
@@ -44,21 +44,11 @@ use Rattle.bandwidth_waiters.specs.Turns as turns
 use Rattle.bandwidth_waiters.proofs.Windows.{Went}
 use Rattle.bandwidth.proofs.Calls.{end_done, request_unknown, request_done, known_rcid, request_fits, serve_row, write_alloc_at, write_bw_at, write_mon_at, write_none}
 use Rattle.bandwidth_lent.specs.Bytes.{Lent, lent, lent_of, pointers, step_bytes}
-use Rattle.bandwidth_lent.specs.View.{words_in, state_in, Tables, Passing, Checked}
+use Rattle.bandwidth_lent.specs.View.{words_in, state_in, Tables, Passing}
 use Rattle.bandwidth_lent.specs.declared.check.Held.{Held}
-use Rattle.bandwidth_lent.specs.declared.check.Check.{Check}
-use Rattle.bandwidth_lent.specs.declared.check.Check.TheVariants.{Passed, Failed}
 use Rattle.bandwidth_lent.proofs.Steps.{answered, same_bytes}
 use Rattle.bandwidth_bytes.specs.View.{Asks, GiveFits, Gave, Stores}
 use Rattle.bandwidth_service.specs.Service.{Turned}
-
--- ---- what the checks found
-
-pub passed_of : {l : Lent} {r : Check} {h : Held} → Checked l r → r ≡ Passed h → Passing l h
-passed_of {l} k e = subst (Checked l) e k
-
-pub failed_of : {l : Lent} {r : Check} {n : ℕ} → Checked l r → r ≡ Failed n → (c : Call) → T (not (is_reset c)) → refusal n (pointers c) l ≡ step_bytes l c
-failed_of {l} k e = subst (Checked l) e k
 
 -- ---- by the model's step
 
@@ -106,13 +96,11 @@ module _ {l : Lent} {h : Held} (p : Passing l h) where
   abbrev tables : Tables su l.active l.configured l.used l.counters l.events l.waiters
   tables = p.long.tables
 
-  module _ (size offset : ℕ) {r : Reading} (o : outcome (reading_of r) (state_in l h.«record») ≡ step (state_in l h.«record») (read size offset)) where
-    pub read_refused : (why : Refusal) (n : ℕ) → r ≡ reading.Refused why → n ≡ number_of why → reply n (0 ∷ []) l ≡ step_bytes l (read size offset)
-    unfolding pointers
-    read_refused why n e i = rw i (refused_then p (read size offset) tt (number_of why) (rw e at o))
-
-    pub read_value : (v : ℕ) → r ≡ reading.Value v → reply 0 (v ∷ []) l ≡ step_bytes l (read size offset)
-    read_value v e = value_then p (read size offset) tt v (rw e at o)
+  pub read_answered : (size offset : ℕ) (r : Result ℕ Refusal) → outcome (reading_of r) (state_in l h.«record») ≡ step (state_in l h.«record») (read size offset)
+      → reply (refusal_in r) (value_in r) l ≡ step_bytes l (read size offset)
+  unfolding pointers
+  read_answered size offset (Err why) o = refused_then p (read size offset) tt (number_of why) o
+  read_answered size offset (Ok v) o = value_then p (read size offset) tt v o
 
   -- a window end: the configured bytes come into force, and the bytes of x are left
   pub window_ended : {x : turns.Tables} (R A U N W : List ℕ) {pool : ℕ} → R ≡ with_word 8 l.«record» 11 pool → A ≡ l.configured → Turned x U pool N W
@@ -137,9 +125,9 @@ module _ {l : Lent} {h : Held} (p : Passing l h) where
     abbrev judged : ℕ
     judged = first (wait_checks su (table_of 8 l.waiters) rcid mcid bytes) 0
 
-    pub wait_refused : (why : Refusal) (n : ℕ) → number_of why ≡ judged → n ≡ number_of why → reply n [] l ≡ step_bytes l (wait rcid mcid at kind bytes)
+    pub wait_refused : (why : Refusal) → number_of why ≡ judged → reply (number_of why) [] l ≡ step_bytes l (wait rcid mcid at kind bytes)
     unfolding pointers
-    wait_refused why n e i = rw i (refused_then p (wait rcid mcid at kind bytes) tt (number_of why) (bandwidth.wait_refused p.passes rcid mcid at kind bytes why e))
+    wait_refused why e = refused_then p (wait rcid mcid at kind bytes) tt (number_of why) (bandwidth.wait_refused p.passes rcid mcid at kind bytes why e)
 
     pub wait_done : {word : ℕ} (W : List ℕ) → 0 ≡ judged → word ≡ put_word su mcid at kind bytes → W ≡ with_word 8 l.waiters rcid word
         → reply 0 [] (lent l.«record» l.active l.configured l.used l.counters l.events W) ≡ step_bytes l (wait rcid mcid at kind bytes)
@@ -152,10 +140,9 @@ module _ {l : Lent} {h : Held} (p : Passing l h) where
   -- ---- requests
 
   module _ (rcid mcid at kind bytes : ℕ) where
-    pub request_unnamed : {c : Call} (why : Refusal) {r : ℕ} → Asks c (number_of why) rcid mcid at kind bytes → (leb su.nr rcid || leb su.nm mcid) ≡ true → r ≡ number_of why
-        → reply r (0 ∷ 0 ∷ []) l ≡ step_bytes l c
-    request_unnamed {c} why k e q =
-        rw q (rw k.two at (refused_then p c k.is.no_reset (number_of why) (request_unknown p.passes k.is e why refl)))
+    pub request_unnamed : {c : Call} (why : Refusal) → Asks c (number_of why) rcid mcid at kind bytes → (leb su.nr rcid || leb su.nm mcid) ≡ true
+        → reply (number_of why) (0 ∷ 0 ∷ []) l ≡ step_bytes l c
+    request_unnamed {c} why k e = rw k.two at (refused_then p c k.is.no_reset (number_of why) (request_unknown p.passes k.is e why refl))
 
     module _ (e : (leb su.nr rcid || leb su.nm mcid) ≡ false) {a from to : ℕ} (k : a ≡ known_at su.na at) (w : RowAt su.nr su.na rcid from to) where
       -- the words of the RCID
@@ -182,9 +169,9 @@ module _ {l : Lent} {h : Held} (p : Passing l h) where
   -- ---- writes
 
   module _ (size offset v : ℕ) where
-    pub write_refused : (why : Refusal) (n : ℕ) → number_of why ≡ first (write_checks registers_end size offset v) 0 → n ≡ number_of why → reply n [] l ≡ step_bytes l (write size offset v)
+    pub write_refused : (why : Refusal) → number_of why ≡ first (write_checks registers_end size offset v) 0 → reply (number_of why) [] l ≡ step_bytes l (write size offset v)
     unfolding pointers
-    write_refused why n e i = rw i (refused_then p (write size offset v) tt (number_of why) (bandwidth.write_refused p.passes size offset v why e))
+    write_refused why e = refused_then p (write size offset v) tt (number_of why) (bandwidth.write_refused p.passes size offset v why e)
 
     pub written : (r : Record) (R A C U N E W : List ℕ) → 0 ≡ first (write_checks registers_end size offset v) 0 → R ≡ bytes_of_all 8 (words_in r)
         → lent (bytes_of_all 8 (words_in r)) A C U N E W ≡ lent_of (write_at (state_in l h.«record») offset v) → reply 0 [] (lent R A C U N E W) ≡ step_bytes l (write size offset v)

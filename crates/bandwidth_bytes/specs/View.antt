@@ -1,18 +1,25 @@
 -- What the calls on bytes do to the words that they name.
-use Rattle.std.specs.Prelude.{◌≡◌, List, ℕ, ◌+◌, ◌*◌, ◌≤◌, length}
+use Rattle.std.specs.Prelude.{◌≡◌, Result, Ok, Err, List, [], ◌∷◌, ℕ, ◌+◌, ◌*◌, ◌≤◌, length}
 use Rattle.words.specs.Words.{bytes_of_all, table_of}
 use Rattle.tables.specs.Parts.{part, with_part}
+use Rattle.access.specs.declared.Refusal.{Refusal}
 use Rattle.bandwidth_settings.specs.View.{allocation}
 use Rattle.bandwidth_settings.specs.Rows.{write_row}
 use Rattle.bandwidth_settings.specs.declared.Written.{Written}
 use Rattle.bandwidth_grants.specs.View.{grant_from}
 use Rattle.bandwidth_grants.specs.Grants.{RowFits, RowGiven}
 use Rattle.bandwidth_grants.specs.declared.Given.{Given}
+use Rattle.bandwidth_grants.specs.declared.Grant.{Grant}
 use Rattle.bandwidth_model.specs.Rules.{Setup}
 use Rattle.bandwidth_model.specs.Calls.{Call}
 use Rattle.bandwidth_model.specs.View.{Requests}
 use Rattle.bandwidth_model.specs.Model.{Allocation}
 use Rattle.bandwidth_lent.specs.Bytes.{pointers}
+
+-- what a request hands to its two pointers: the bytes granted, 0 on a refusal
+abbrev pub amounts_in : Result Grant Refusal → List ℕ
+amounts_in (Ok grant) = grant.reserved ∷ grant.pool ∷ []
+amounts_in (Err why) = 0 ∷ 0 ∷ []
 
 -- the call is a request with these identifiers, and hands back two numbers
 pub record Asks (c : Call) (n rcid mcid at kind bytes : ℕ) : Type 0 where

@@ -6,19 +6,3 @@ pub mod request;
 pub mod wait;
 pub mod window;
 pub mod write;
-
-use bandwidth_grants::Grant;
-
-// The refusal's number, 0 for none, and the value read.
-#[derive(Clone, Copy)]
-pub struct Answer {
-    pub number: u64,
-    pub value: u64,
-}
-
-// The refusal's number, 0 for none, and the bytes granted.
-#[derive(Clone, Copy)]
-pub struct Served {
-    pub number: u64,
-    pub grant: Grant,
-}

@@ -1,23 +1,23 @@
 // Requests on bytes.
 ghost use Rattle.std.specs.Prelude.{◌≡◌, false, ◌||◌, [], ◌∷◌, ℕ, ◌≤◌, leb, length};
 ghost use Rattle.bandwidth_setup.specs.View.{setup_of};
+ghost use Rattle.access.specs.View.{refusal_in};
 ghost use Rattle.replies.specs.Replies.{reply};
 ghost use Rattle.access.specs.Refusals.{number_of};
 ghost use Rattle.bandwidth_model.specs.Calls.{Call, request, device_request};
 ghost use Rattle.bandwidth_model.specs.View.{Requests};
 ghost use Rattle.bandwidth_lent.specs.Bytes.{lent, step_bytes};
 ghost use Rattle.bandwidth_lent.specs.View.{Passing};
-ghost use Rattle.bandwidth_bytes.specs.View.{Asks, GiveFits, Gave};
+ghost use Rattle.bandwidth_bytes.specs.View.{amounts_in, Asks, GiveFits, Gave};
 
-use crate::Served;
-use access::{Refusal, known_at, refusal_number};
+use access::{Refusal, known_at};
 use bandwidth_grants::{Given, Grant, give};
-use bandwidth_lent::{Check, Held, checked};
+use bandwidth_lent::{Held, checked};
 use bandwidth_setup::Setup;
 use devices::{identifiers_in, out_of_range};
 use monitor_bytes::count_bytes;
-use tables::row_at;
-use words::{load_part32, put64, store_part32};
+use tables::row_of;
+use words::{load_part, put, store_part};
 
 // A request by n words of its RCID from the word `from` on, with arrays for them.
 fn give_loaded(
@@ -36,10 +36,10 @@ fn give_loaded(
     requires { GiveFits (setup_of setup) active.now used.old from n pool reserved at bytes × ((length row.old ≡ n) × (length spent.old ≡ n)) }
     ensures { Gave (setup_of setup) active.now used.old from n pool reserved at bytes used.new result }
 {
-    load_part32(active, from, row);
-    load_part32(used, from, spent);
+    load_part(active, from, row);
+    load_part(used, from, spent);
     let given = give(setup, row, spent, pool, reserved, at, bytes);
-    store_part32(spent, used, from);
+    store_part(spent, used, from);
     given
 }
 
@@ -99,36 +99,22 @@ fn serve(
     let totals = held.totals;
     let setup = given.setup;
     let at = known_at(setup.na, at);
-    let place = row_at(setup.nr, setup.na, rcid);
+    let place = row_of(setup.nr, setup.na, rcid);
     let gave = give_bytes(
         setup,
         active,
         used,
-        place.from,
-        place.to - place.from,
+        place.start,
+        place.end - place.start,
         given.pool,
         totals.active,
         at,
         bytes as u64,
     );
-    put64(record, 11, gave.pool);
+    put(record, 11, gave.pool);
     let sum = gave.sum;
     count_bytes(setup.w, counters, events, mcid, at, kind, sum);
     gave.grant
-}
-
-// The answer of a request that is refused: nothing is granted.
-fn refused(number: u64) -> Served
-    ensures { (result.number ≡ number) × ((result.grant.reserved ≡ 0) × (result.grant.pool ≡ 0)) }
-{
-    let none = Grant {
-        reserved: 0,
-        pool: 0,
-    };
-    Served {
-        number,
-        grant: none,
-    }
 }
 
 // A request with these identifiers that passed checks 1 to 3, refused for `unknown` where one of them is out of range.
@@ -147,21 +133,21 @@ fn request_by(
     at: u64,
     kind: u64,
     bytes: u32,
-) -> Served
+) -> Result<Grant, Refusal>
     requires { Passing (lent «record».old active.now configured.now used.old counters.old events.now waiters.now) held }
     ensures { (c : Call) → Asks c (number_of unknown) rcid mcid at kind bytes
-        → reply result.number (result.grant.reserved ∷ result.grant.pool ∷ []) (lent «record».new active.now configured.now used.new counters.new events.now waiters.now) ≡ step_bytes (lent «record».old active.now configured.now used.old counters.old events.now waiters.now) c }
+        → reply (refusal_in result) (amounts_in result) (lent «record».new active.now configured.now used.new counters.new events.now waiters.now) ≡ step_bytes (lent «record».old active.now configured.now used.old counters.old events.now waiters.now) c }
 {
     let given = held.record;
     let setup = given.setup;
     if (setup.nr <= rcid) | (setup.nm <= mcid) {
-        return refused(refusal_number(unknown));
+        return Err(unknown);
     }
     let grant = serve(
         held, record, active, configured, used, counters, events, waiters, rcid, mcid, at, kind,
         bytes,
     );
-    Served { number: 0, grant }
+    Ok(grant)
 }
 
 pub fn request(
@@ -177,28 +163,26 @@ pub fn request(
     at: u64,
     kind: u64,
     bytes: u32,
-) -> Served
-    ensures { reply result.number (result.grant.reserved ∷ result.grant.pool ∷ []) (lent «record».new active.now configured.now used.new counters.new events.now waiters.now) ≡ step_bytes (lent «record».old active.now configured.now used.old counters.old events.now waiters.now) (request rcid mcid at kind bytes) }
+) -> Result<Grant, Refusal>
+    ensures { reply (refusal_in result) (amounts_in result) (lent «record».new active.now configured.now used.new counters.new events.now waiters.now) ≡ step_bytes (lent «record».old active.now configured.now used.old counters.old events.now waiters.now) (request rcid mcid at kind bytes) }
 {
-    match checked(record, active, configured, used, counters, events, waiters) {
-        Check::Failed(number) => refused(number),
-        Check::Passed(held) => request_by(
-            held,
-            record,
-            active,
-            configured,
-            used,
-            counters,
-            events,
-            waiters,
-            rcid,
-            mcid,
-            Refusal::Identifier,
-            at,
-            kind,
-            bytes,
-        ),
-    }
+    let held = checked(record, active, configured, used, counters, events, waiters)?;
+    request_by(
+        held,
+        record,
+        active,
+        configured,
+        used,
+        counters,
+        events,
+        waiters,
+        rcid,
+        mcid,
+        Refusal::Identifier,
+        at,
+        kind,
+        bytes,
+    )
 }
 
 // A device's request, by the IOMMU's mode and the word of its register or of the device context.
@@ -215,29 +199,25 @@ pub fn device_request(
     at: u64,
     kind: u64,
     bytes: u32,
-) -> Served
-    ensures { reply result.number (result.grant.reserved ∷ result.grant.pool ∷ []) (lent «record».new active.now configured.now used.new counters.new events.now waiters.now) ≡ step_bytes (lent «record».old active.now configured.now used.old counters.old events.now waiters.now) (device_request mode word at kind bytes) }
+) -> Result<Grant, Refusal>
+    ensures { reply (refusal_in result) (amounts_in result) (lent «record».new active.now configured.now used.new counters.new events.now waiters.now) ≡ step_bytes (lent «record».old active.now configured.now used.old counters.old events.now waiters.now) (device_request mode word at kind bytes) }
 {
-    match checked(record, active, configured, used, counters, events, waiters) {
-        Check::Failed(number) => refused(number),
-        Check::Passed(held) => {
-            let ids = identifiers_in(mode, word);
-            request_by(
-                held,
-                record,
-                active,
-                configured,
-                used,
-                counters,
-                events,
-                waiters,
-                ids.rcid,
-                ids.mcid,
-                out_of_range(mode),
-                at,
-                kind,
-                bytes,
-            )
-        }
-    }
+    let held = checked(record, active, configured, used, counters, events, waiters)?;
+    let ids = identifiers_in(mode, word);
+    request_by(
+        held,
+        record,
+        active,
+        configured,
+        used,
+        counters,
+        events,
+        waiters,
+        ids.rcid,
+        ids.mcid,
+        out_of_range(mode),
+        at,
+        kind,
+        bytes,
+    )
 }

@@ -1,14 +1,15 @@
 // Window ends on bytes.
 ghost use Rattle.std.specs.Prelude.{◌≡◌, []};
+ghost use Rattle.access.specs.View.{refusal_in};
 ghost use Rattle.replies.specs.Replies.{reply};
 ghost use Rattle.bandwidth_model.specs.Calls.{end_window};
 ghost use Rattle.bandwidth_lent.specs.Bytes.{lent, step_bytes};
 ghost use Rattle.bandwidth_lent.specs.View.{Passing};
 
-use bandwidth_lent::{Check, Held, checked};
+use access::Refusal;
+use bandwidth_lent::{Held, checked};
 use bandwidth_service::{serve_all, weights_of};
-use tables::saturating_sub;
-use words::{clear8, copy8, put64, union64};
+use words::{put, union64};
 
 // Takes the settings configured into force, with nothing used, and serves the waiters, if there are any.
 fn open_window(
@@ -27,18 +28,18 @@ fn open_window(
     let given = held.record;
     let totals = held.totals;
     let setup = given.setup;
-    copy8(active, configured);
-    clear8(used);
+    active.copy_from_slice(configured);
+    used.fill(0);
     if union64(waiters) == 0 {
-        put64(record, 11, 0);
+        put(record, 11, 0u64);
         return;
     }
-    let size = saturating_sub(setup.nbwblks, totals.configured) * setup.q;
+    let size = setup.nbwblks.saturating_sub(totals.configured) * setup.q;
     let weights = weights_of(setup, configured, waiters);
     let pool = serve_all(
         setup, configured, used, counters, events, waiters, size, weights,
     );
-    put64(record, 11, pool);
+    put(record, 11, pool);
 }
 
 pub fn end_window(
@@ -49,16 +50,12 @@ pub fn end_window(
     counters: &mut [u8],
     events: &[u8],
     waiters: &mut [u8],
-) -> u64
-    ensures { reply result [] (lent «record».new active.new configured.now used.new counters.new events.now waiters.new) ≡ step_bytes (lent «record».old active.old configured.now used.old counters.old events.now waiters.old) end_window }
+) -> Result<(), Refusal>
+    ensures { reply (refusal_in result) [] (lent «record».new active.new configured.now used.new counters.new events.now waiters.new) ≡ step_bytes (lent «record».old active.old configured.now used.old counters.old events.now waiters.old) end_window }
 {
-    match checked(record, active, configured, used, counters, events, waiters) {
-        Check::Failed(number) => number,
-        Check::Passed(held) => {
-            open_window(
-                held, record, active, configured, used, counters, events, waiters,
-            );
-            0
-        }
-    }
+    let held = checked(record, active, configured, used, counters, events, waiters)?;
+    open_window(
+        held, record, active, configured, used, counters, events, waiters,
+    );
+    Ok(())
 }

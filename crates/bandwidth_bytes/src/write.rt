@@ -4,6 +4,7 @@ ghost use Rattle.words.specs.Words.{bytes_of_all, Holds};
 ghost use Rattle.bandwidth_setup.specs.View.{setup_of};
 ghost use Rattle.bandwidth_settings.specs.View.{Ready};
 ghost use Rattle.bandwidth_settings.specs.Rows.{Reserves};
+ghost use Rattle.access.specs.View.{refusal_in};
 ghost use Rattle.replies.specs.Replies.{reply};
 ghost use Rattle.bandwidth_model.specs.Calls.{write};
 ghost use Rattle.bandwidth_model.specs.Model.{write_alloc, write_at};
@@ -11,14 +12,15 @@ ghost use Rattle.bandwidth_lent.specs.Bytes.{lent, lent_of, step_bytes};
 ghost use Rattle.bandwidth_lent.specs.View.{words_in, state_in, Passing};
 ghost use Rattle.bandwidth_bytes.specs.View.{Wrote, Stores};
 
-use access::{Verdict, refusal_number, write_verdict};
+use access::{Refusal, check_write};
 use bandwidth::Record;
-use bandwidth_lent::{Check, Held, checked, store_record};
-use bandwidth_settings::{Written, bw_word, named_row, write_row};
+use bandwidth_lent::{Held, checked, store_record};
+use bandwidth_settings::{Written, bw_word, row_named, write_row};
 use bandwidth_setup::Setup;
-use monitor::{Registers, bandwidth_status};
+use codes::Resource;
+use monitor::{Registers, mon_status};
 use monitor_bytes::write_mon;
-use words::{load_part32, store_part32};
+use words::{load_part, store_part};
 
 // A write of v to alloc_ctl by n words of the RCID that it names from the word `from` on, with an array for them.
 fn write_loaded(
@@ -34,9 +36,9 @@ fn write_loaded(
     requires { Reserves (setup_of setup) reserved × (((from + n) * 4 ≤ length configured.old) × (length row.old ≡ n)) }
     ensures { Wrote (setup_of setup) configured.old from n reserved bw v configured.new result }
 {
-    load_part32(configured, from, row);
+    load_part(configured, from, row);
     let done = write_row(setup, row, reserved, bw, v);
-    store_part32(row, configured, from);
+    store_part(row, configured, from);
     done
 }
 
@@ -45,13 +47,13 @@ fn write_alloc(setup: Setup, configured: &mut [u8], reserved: u64, bw: u64, v: u
     requires { Reserves (setup_of setup) reserved × (setup.nr * setup.na * 4 ≤ length configured.old) }
     ensures { (ws : List ℕ) → Holds 4 configured.old ws → Ready (setup_of setup) ws reserved → Stores (write_alloc (setup_of setup) bw ws v) result configured.new }
 {
-    let place = named_row(setup, v);
-    let n = place.to - place.from;
+    let place = row_named(setup, v);
+    let n = place.end - place.start;
     let mut row = [0u32; 8];
     write_loaded(
         setup,
         configured,
-        place.from,
+        place.start,
         &mut row[..n],
         n,
         reserved,
@@ -94,7 +96,7 @@ fn store(
                 ctl: next.mon_ctl,
                 value: next.mon_ctr_val,
             };
-            let status = bandwidth_status(setup.na, setup.nm, value);
+            let status = mon_status(Resource::Bandwidth, setup.na, setup.nm, value);
             let done = write_mon(setup.na, status, old, counters, events, value);
             next.mon_ctl = done.ctl;
             next.mon_ctr_val = done.value;
@@ -115,21 +117,14 @@ pub fn write(
     size: u64,
     offset: u64,
     value: u64,
-) -> u64
-    ensures { reply result [] (lent «record».new active.now configured.new used.now counters.new events.new waiters.now) ≡ step_bytes (lent «record».old active.now configured.old used.now counters.old events.old waiters.now) (write size offset value) }
+) -> Result<(), Refusal>
+    ensures { reply (refusal_in result) [] (lent «record».new active.now configured.new used.now counters.new events.new waiters.now) ≡ step_bytes (lent «record».old active.now configured.old used.now counters.old events.old waiters.now) (write size offset value) }
 {
-    match checked(record, active, configured, used, counters, events, waiters) {
-        Check::Failed(number) => number,
-        Check::Passed(held) => match write_verdict(size, offset, value) {
-            Verdict::Failed(why) => refusal_number(why),
-            Verdict::Passed => {
-                let next = store(
-                    held, record, active, configured, used, counters, events, waiters, offset,
-                    value,
-                );
-                store_record(next, record);
-                0
-            }
-        },
-    }
+    let held = checked(record, active, configured, used, counters, events, waiters)?;
+    check_write(size, offset, value)?;
+    let next = store(
+        held, record, active, configured, used, counters, events, waiters, offset, value,
+    );
+    store_record(next, record);
+    Ok(())
 }

@@ -1,16 +1,17 @@
+use Rattle.std.proofs.lemmas.Result.{err_from_is_err_and}
 use Rattle.bandwidth_model.specs.Calls.{request}
 use Rattle.bandwidth_lent.specs.Bytes.{pointers}
-use Rattle.bandwidth_bytes.proofs.Calls.{passed_of, failed_of, request_asks}
+use Rattle.bandwidth_bytes.proofs.Calls.{request_asks}
 use Rattle.bandwidth_bytes.proofs.request.request.Goals as goal
 
 pub request_by-requires : goal.request_by-requires
-request_by-requires c = passed_of c.checked.ensures c.in-Passed.is
+request_by-requires c = c.in_ok-held.ensures
 
-pub returns-in-Failed : goal.returns-in-Failed
+pub returns-in_err-held : goal.returns-in_err-held
 unfolding pointers
-returns-in-Failed c =
-    let none = c.refused.ensures in
-    rw (none.0, none.1.0, none.1.1) (failed_of c.checked.ensures c.in-Failed.is (request _ _ _ _ _) tt)
+returns-in_err-held c =
+    let p = err_from_is_err_and c.from_residual.result c.from_residual.ensures.1 in
+    rw (p.1, p.2) (c.in_err-held.ensures (request _ _ _ _ _) tt)
 
-pub returns-in-Passed : goal.returns-in-Passed
-returns-in-Passed c = c.request_by.ensures _ (request_asks _ _ _ _ _)
+pub returns : goal.returns
+returns c = c.request_by.ensures _ (request_asks _ _ _ _ _)

@@ -1,11 +1,8 @@
-use mathlib.Core.Path.{◌∙◌}
 use Rattle.bandwidth_bytes.proofs.Calls.{request_unnamed}
 use Rattle.bandwidth_bytes.proofs.request.request_by.Goals as goal
 
 pub returns-then-setup-rcid : goal.returns-then-setup-rcid
-returns-then-setup-rcid c d k =
-    let none = c.refused.ensures in
-    rw (none.1.0, none.1.1) (request_unnamed c.requires _ _ _ _ _ c.args.unknown k c.if-setup-rcid.true (none.0 ∙ c.refusal_number.ensures))
+returns-then-setup-rcid c d k = request_unnamed c.requires _ _ _ _ _ c.args.unknown k c.if-setup-rcid.true
 
 pub serve-grant-requires : goal.serve-grant-requires
 serve-grant-requires c = (c.requires, c.if-setup-rcid.false)

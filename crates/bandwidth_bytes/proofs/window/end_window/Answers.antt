@@ -1,14 +1,16 @@
+use Rattle.std.proofs.lemmas.Result.{err_from_is_err_and}
 use Rattle.bandwidth_model.specs.Calls.{end_window}
 use Rattle.bandwidth_lent.specs.Bytes.{pointers}
-use Rattle.bandwidth_bytes.proofs.Calls.{passed_of, failed_of}
 use Rattle.bandwidth_bytes.proofs.window.end_window.Goals as goal
 
 pub open_window-requires : goal.open_window-requires
-open_window-requires c = passed_of c.checked.ensures c.in-Passed.is
+open_window-requires c = c.in_ok-held.ensures
 
-pub returns-in-Failed : goal.returns-in-Failed
+pub returns-in_err-held : goal.returns-in_err-held
 unfolding pointers
-returns-in-Failed c = failed_of c.checked.ensures c.in-Failed.is end_window tt
+returns-in_err-held c =
+    let p = err_from_is_err_and c.from_residual.result c.from_residual.ensures.1 in
+    rw (p.1, p.2) (c.in_err-held.ensures end_window tt)
 
-pub returns-in-Passed : goal.returns-in-Passed
-returns-in-Passed c = c.open_window.ensures
+pub returns : goal.returns
+returns c = c.open_window.ensures

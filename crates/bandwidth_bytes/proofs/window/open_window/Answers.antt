@@ -5,13 +5,13 @@ use Rattle.bandwidth_bytes.proofs.Windows.{window_still, window_weighs, window_b
 use Rattle.bandwidth_bytes.proofs.window.open_window.Goals as goal
 
 -- the tables of settings are of one length
-pub copy8-requires : goal.copy8-requires
-copy8-requires c =
+pub copy_from_slice-requires : goal.copy_from_slice-requires
+copy_from_slice-requires c =
     let z = c.requires.long.tables in
     z.active_long ∙ sym z.configured_long
 
 pub returns-then-union64-eq0 : goal.returns-then-union64-eq0
-returns-then-union64-eq0 c = window_still c.requires _ _ _ c.put64.ensures c.copy8.ensures c.clear8.ensures c.union64.ensures c.if-union64-eq0.true
+returns-then-union64-eq0 c = window_still c.requires _ _ _ c.put.ensures c.copy_from_slice.ensures.after (c.fill.ensures.after (λ n e. e)) c.union64.ensures c.if-union64-eq0.true
 
 pub overflow_mul-size : goal.overflow_mul-size
 overflow_mul-size c =
@@ -23,10 +23,10 @@ weights_of-weights-requires c = window_weighs c.requires
 
 pub serve_all-pool-requires : goal.serve_all-pool-requires
 serve_all-pool-requires c =
-    window_begins c.requires c.clear8.ensures c.saturating_sub.ensures c.weights_of-weights.ensures c.clear8.auto.b
+    window_begins c.requires (c.fill.ensures.after (λ n e. e)) c.saturating_sub.ensures c.weights_of-weights.ensures c.fill.auto.self
     (λ i. (c.slice_known-7-1.given i).fits)
 
 pub returns : goal.returns
 returns c =
-    window_turned c.requires c.clear8.ensures c.saturating_sub.ensures c.weights_of-weights.ensures _ _ _ _ _ c.put64-2.ensures c.copy8.ensures
+    window_turned c.requires (c.fill.ensures.after (λ n e. e)) c.saturating_sub.ensures c.weights_of-weights.ensures _ _ _ _ _ c.put-2.ensures c.copy_from_slice.ensures.after
     c.serve_all-pool.ensures

@@ -17,7 +17,7 @@ pub returns-in-32 : goal.returns-in-32
 returns-in-32 c = bw_written c.requires _ _ c.in-32.is c.bw_word.ensures.is
 
 pub returns-in-8 : goal.returns-in-8
-returns-in-8 c = mon_written c.requires _ _ c.in-8.is c.bandwidth_status-status.ensures c.write_mon-done.ensures
+returns-in-8 c = mon_written c.requires _ _ c.in-8.is c.mon_status-status.ensures c.write_mon-done.ensures
 
 pub returns-in_default : goal.returns-in_default
 returns-in_default c = let r = c.in_default.in_default-own.rest in none_written c.requires _ _ r.0.0.1 r.0.1 r.1

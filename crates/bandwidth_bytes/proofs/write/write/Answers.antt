@@ -1,26 +1,25 @@
-use mathlib.Core.Path.{sym, ap, ◌∙◌}
-use Rattle.access.specs.View.{verdict_of}
+use Rattle.std.proofs.lemmas.Result.{err_from_is_err_and}
 use Rattle.bandwidth_model.specs.Calls.{write}
 use Rattle.bandwidth_lent.specs.Bytes.{pointers}
-use Rattle.bandwidth_bytes.proofs.Calls.{passed_of, failed_of, write_refused, written}
+use Rattle.bandwidth_bytes.proofs.Calls.{write_refused, written}
 use Rattle.bandwidth_bytes.proofs.write.write.Goals as goal
 
+pub returns-in_err-held : goal.returns-in_err-held
+unfolding pointers
+returns-in_err-held c =
+    let p = err_from_is_err_and c.from_residual.result c.from_residual.ensures.1 in
+    rw (p.1, p.2) (c.in_err-held.ensures (write _ _ _) tt)
+
+pub returns-in_err-check_write : goal.returns-in_err-check_write
+returns-in_err-check_write c =
+    let p = err_from_is_err_and c.from_residual-in_err-check_write.result c.from_residual-in_err-check_write.ensures.1 in
+    rw (p.1, p.2) (write_refused c.in_ok-held.ensures _ _ _ c.in_err-check_write.field-0.0 c.in_err-check_write.ensures)
+
 pub store-next-requires : goal.store-next-requires
-store-next-requires c = passed_of c.checked.ensures c.in-Passed.is
+store-next-requires c = c.in_ok-held.ensures
 
 pub store_record-requires : goal.store_record-requires
-store_record-requires c = (passed_of c.checked.ensures c.in-Passed.is).long.record_long
+store_record-requires c = c.in_ok-held.ensures.long.record_long
 
-pub returns-in-Failed : goal.returns-in-Failed
-unfolding pointers
-returns-in-Failed c = failed_of c.checked.ensures c.in-Failed.is (write _ _ _) tt
-
-pub returns-in-Failed-write_verdict : goal.returns-in-Failed-write_verdict
-returns-in-Failed-write_verdict c =
-    write_refused (passed_of c.checked.ensures c.in-Passed.is) _ _ _ c.in-Failed-write_verdict.why _
-    (sym (ap verdict_of c.in-Failed-write_verdict.is) ∙ c.write_verdict.ensures) c.refusal_number.ensures
-
-pub returns-in-Passed-write_verdict : goal.returns-in-Passed-write_verdict
-returns-in-Passed-write_verdict c =
-    written (passed_of c.checked.ensures c.in-Passed.is) _ _ _ _ _ _ _ _ _ _ _ (sym (ap verdict_of c.in-Passed-write_verdict.is) ∙ c.write_verdict.ensures)
-    c.store_record.ensures c.store-next.ensures
+pub returns : goal.returns
+returns c = written c.in_ok-held.ensures _ _ _ _ _ _ _ _ _ _ _ c.in_ok-check_write.ensures c.store_record.ensures c.store-next.ensures

@@ -7,13 +7,13 @@ use Rattle.bandwidth_bytes.proofs.Parts.{alloc_stored}
 use Rattle.bandwidth_bytes.proofs.write.write_alloc.Goals as goal
 
 pub slice_bounds-write_loaded-end : goal.slice_bounds-write_loaded-end
-slice_bounds-write_loaded-end c = sym (length-take-le _ (replicate 8 0) (le_trans c.named_row-place.ensures.short c.requires.0.ranges.na_high))
+slice_bounds-write_loaded-end c = sym (length-take-le _ (replicate 8 0) (le_trans c.row_named-place.ensures.short c.requires.0.ranges.na_high))
 
 pub write_loaded-requires : goal.write_loaded-requires
 write_loaded-requires c =
     let p = c.requires in
-    let r = c.named_row-place.ensures in
+    let r = c.row_named-place.ensures in
     (p.0, (omega (arith, p.1, r.order, r.inside), length-take-le _ (replicate 8 0) (le_trans r.short p.0.ranges.na_high)))
 
 pub returns : goal.returns
-returns c = alloc_stored c.named_row-place.ensures c.write_loaded.ensures
+returns c = alloc_stored c.row_named-place.ensures c.write_loaded.ensures

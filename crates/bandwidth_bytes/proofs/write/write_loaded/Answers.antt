@@ -12,6 +12,6 @@ returns c =
     let long = c.requires.1.1 in
     record {
       left = c.write_row-done.new.row;
-      written = c.write_row-done.ensures ∙ ap (λ (row : List ℕ). write_row (setup_of a.setup) a.reserved a.bw row a.v) (loaded_as a.from a.configured.now c.load_part32.ensures long);
-      bytes_are = λ h. stored_as a.from a.configured.now c.write_row-done.new.row (c.store_part32.ensures _ h) (c.write_row-done.auto.row ∙ c.load_part32.auto.words ∙ long);
+      written = c.write_row-done.ensures ∙ ap (λ (row : List ℕ). write_row (setup_of a.setup) a.reserved a.bw row a.v) (loaded_as a.from a.configured.now c.load_part.ensures long);
+      bytes_are = λ h. stored_as a.from a.configured.now c.write_row-done.new.row (c.store_part.ensures _ h) (c.write_row-done.auto.row ∙ c.load_part.auto.words ∙ long);
     }
