@@ -4,6 +4,7 @@ ghost use Rattle.bandwidth_model.specs.Calls.{reset, read, write, request, end_w
 ghost use Rattle.replies.specs.Replies.{reply};
 ghost use Rattle.bandwidth_lent.specs.Bytes.{setup_by, step_bytes, lent};
 
+use crate::number;
 use bandwidth_setup::Setup;
 
 #[unsafe(no_mangle)]
@@ -35,9 +36,9 @@ pub extern "C" fn cbqri_bandwidth_reset(
         q,
         w,
     };
-    bandwidth_lent::reset::reset(
+    number(bandwidth_lent::reset::reset(
         record, active, configured, used, counters, events, waiters, setup,
-    )
+    ))
 }
 
 #[unsafe(no_mangle)]
@@ -56,11 +57,19 @@ pub extern "C" fn cbqri_bandwidth_read(
     ensures { reply result (value.new ∷ []) (lent «record».now active.now configured.now used.now counters.now events.now waiters.now)
         ≡ step_bytes (lent «record».now active.now configured.now used.now counters.now events.now waiters.now) (read size offset) }
 {
-    let answer = bandwidth_bytes::read::read(
+    let read = bandwidth_bytes::read::read(
         record, active, configured, used, counters, events, waiters, size, offset,
     );
-    *value = answer.value;
-    answer.number
+    match read {
+        Ok(word) => {
+            *value = word;
+            0
+        }
+        Err(why) => {
+            *value = 0;
+            u64::from(why)
+        }
+    }
 }
 
 #[unsafe(no_mangle)]
@@ -79,9 +88,9 @@ pub extern "C" fn cbqri_bandwidth_write(
     ensures { reply result [] (lent «record».new active.now configured.new used.now counters.new events.new waiters.now)
         ≡ step_bytes (lent «record».old active.now configured.old used.now counters.old events.old waiters.now) (write size offset value) }
 {
-    bandwidth_bytes::write::write(
+    number(bandwidth_bytes::write::write(
         record, active, configured, used, counters, events, waiters, size, offset, value,
-    )
+    ))
 }
 
 #[unsafe(no_mangle)]
@@ -104,13 +113,21 @@ pub extern "C" fn cbqri_bandwidth_request(
     ensures { reply result (reserved.new ∷ pool.new ∷ []) (lent «record».new active.now configured.now used.new counters.new events.now waiters.now)
         ≡ step_bytes (lent «record».old active.now configured.now used.old counters.old events.now waiters.now) (request rcid mcid at kind bytes) }
 {
-    let served = bandwidth_bytes::request::request(
+    let granted = bandwidth_bytes::request::request(
         record, active, configured, used, counters, events, waiters, rcid, mcid, at, kind, bytes,
     );
-    let grant = served.grant;
-    *reserved = grant.reserved;
-    *pool = grant.pool;
-    served.number
+    match granted {
+        Ok(grant) => {
+            *reserved = grant.reserved;
+            *pool = grant.pool;
+            0
+        }
+        Err(why) => {
+            *reserved = 0;
+            *pool = 0;
+            u64::from(why)
+        }
+    }
 }
 
 #[unsafe(no_mangle)]
@@ -126,5 +143,7 @@ pub extern "C" fn cbqri_bandwidth_end_window(
     ensures { reply result [] (lent «record».new active.new configured.now used.new counters.new events.now waiters.new)
         ≡ step_bytes (lent «record».old active.old configured.now used.old counters.old events.now waiters.old) end_window }
 {
-    bandwidth_bytes::window::end_window(record, active, configured, used, counters, events, waiters)
+    number(bandwidth_bytes::window::end_window(
+        record, active, configured, used, counters, events, waiters,
+    ))
 }

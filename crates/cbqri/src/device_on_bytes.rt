@@ -24,11 +24,19 @@ pub extern "C" fn cbqri_bandwidth_device_request(
     ensures { reply result (reserved.new ∷ pool.new ∷ []) (lent «record».new active.now configured.now used.new counters.new events.now waiters.now)
         ≡ step_bytes (lent «record».old active.now configured.now used.old counters.old events.now waiters.now) (device_request mode word at kind bytes) }
 {
-    let served = bandwidth_bytes::request::device_request(
+    let granted = bandwidth_bytes::request::device_request(
         record, active, configured, used, counters, events, waiters, mode, word, at, kind, bytes,
     );
-    let grant = served.grant;
-    *reserved = grant.reserved;
-    *pool = grant.pool;
-    served.number
+    match granted {
+        Ok(grant) => {
+            *reserved = grant.reserved;
+            *pool = grant.pool;
+            0
+        }
+        Err(why) => {
+            *reserved = 0;
+            *pool = 0;
+            u64::from(why)
+        }
+    }
 }

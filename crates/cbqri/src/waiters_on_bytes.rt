@@ -5,6 +5,8 @@ ghost use Rattle.bandwidth_model.specs.Calls as calls;
 ghost use Rattle.replies.specs.Replies.{reply};
 ghost use Rattle.bandwidth_lent.specs.Bytes.{step_bytes, lent};
 
+use crate::number;
+
 #[unsafe(no_mangle)]
 pub extern "C" fn cbqri_bandwidth_wait(
     record: &[u8],
@@ -23,9 +25,9 @@ pub extern "C" fn cbqri_bandwidth_wait(
     ensures { reply result [] (lent «record».now active.now configured.now used.now counters.now events.now waiters.new)
         ≡ step_bytes (lent «record».now active.now configured.now used.now counters.now events.now waiters.old) (wait rcid mcid at kind bytes) }
 {
-    bandwidth_bytes::wait::wait(
+    number(bandwidth_bytes::wait::wait(
         record, active, configured, used, counters, events, waiters, rcid, mcid, at, kind, bytes,
-    )
+    ))
 }
 
 #[unsafe(no_mangle)]
@@ -43,9 +45,17 @@ pub extern "C" fn cbqri_bandwidth_need(
     ensures { reply result (need.new ∷ []) (lent «record».now active.now configured.now used.now counters.now events.now waiters.now)
         ≡ step_bytes (lent «record».now active.now configured.now used.now counters.now events.now waiters.now) (calls.need rcid) }
 {
-    let answer = bandwidth_bytes::wait::need(
+    let asked = bandwidth_bytes::wait::need(
         record, active, configured, used, counters, events, waiters, rcid,
     );
-    *need = answer.value;
-    answer.number
+    match asked {
+        Ok(left) => {
+            *need = left;
+            0
+        }
+        Err(why) => {
+            *need = 0;
+            u64::from(why)
+        }
+    }
 }
