@@ -1,10 +1,5 @@
 -- Check 3 over a table of masks.
-use mathlib.Core.Path.{◌≡◌}
-use mathlib.Core.Bool.{Bool}
-use mathlib.Core.List.{List}
-use Prim.Native.Nat.{ℕ, ◌+◌, ◌-◌, ◌*◌, ◌%◌, ◌^◌, ◌<◌}
-use lib.ListN.{get_or}
-use lib.Dec.{eqb}
+use Rattle.std.specs.Prelude.{◌≡◌, Bool, List, ℕ, ◌+◌, ◌-◌, ◌*◌, ◌%◌, ◌^◌, ◌<◌, eqb, get_or}
 use Rattle.tables.specs.Below.{all_below}
 use Rattle.tables.specs.View.{union_below}
 use Rattle.numbers.specs.Numbers.{words_for, numbers_of}

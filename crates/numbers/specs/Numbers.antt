@@ -1,9 +1,5 @@
 -- Numbers of n words of 64 bits, the lowest first, and tables of such numbers.
-use mathlib.Core.Bool.{Bool}
-use mathlib.Core.List.{List, [], ◌∷◌, ◌++◌}
-use Prim.Native.Nat.{ℕ, zero, suc, ◌+◌, ◌*◌, ◌/◌, ◌%◌, ◌^◌}
-use lib.ListN.{length}
-use Rattle.std.specs.Prelude.{if◌then◌else◌, ◌==◌}
+use Rattle.std.specs.Prelude.{Bool, if◌then◌else◌, ◌==◌, List, [], ◌∷◌, ◌++◌, ℕ, zero, suc, ◌+◌, ◌*◌, ◌/◌, ◌%◌, ◌^◌, length}
 use Rattle.tables.specs.Notation.{◌‼◌}
 use Rattle.tables.specs.Below.{sum_below}
 use Rattle.tables.specs.Parts.{with_part}
