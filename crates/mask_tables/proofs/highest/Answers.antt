@@ -1,14 +1,12 @@
-use mathlib.Core.Path.{ap, ◌∙◌}
-use Prim.Native.Nat.{ℕ, ◌-◌, ◌*◌, ◌^◌}
-use native.Mathlib.Omega.{arith}
+use Rattle.std.proofs.Common.{ℕ, ◌-◌, ◌*◌, ◌^◌, ap, ◌∙◌, arith}
 use Rattle.numbers.proofs.Lists.{words_hold}
 use Rattle.mask_tables.proofs.highest.Goals as goal
 
 pub overflow_sub-c : goal.overflow_sub-c
-overflow_sub-c c = let s = c.before in omega (arith, (words_hold s.args.c s.requires.0).1.0)
+overflow_sub-c c = omega (arith, (words_hold c.args.c c.requires.0).1.0)
 
 pub ones-requires : goal.ones-requires
-ones-requires c = let s = c.before in omega (arith, (words_hold s.args.c s.requires.0).1.1)
+ones-requires c = omega (arith, (words_hold c.args.c c.requires.0).1.1)
 
 pub returns : goal.returns
 returns c =
