@@ -1,6 +1,8 @@
 // The bandwidth controller: its record, and the calls on it.
 #![tactic(auto)]
 
+ghost use Rattle.std.specs.Prelude.{◌≡◌, Ok, Err};
+
 mod check;
 mod registers;
 mod request;
@@ -9,6 +11,7 @@ mod row;
 mod wait;
 mod window;
 
+use access::Refusal;
 use bandwidth_setup::Setup;
 pub use bandwidth_wellformed::Totals;
 pub use reset::reset_row;
@@ -22,4 +25,29 @@ pub struct Record {
     pub alloc_ctl: u64,
     pub bw_alloc: u64,
     pub pool: u64,
+}
+
+// What a call hands back: the record beside the answer.
+pub type Answered<T> = access::Answered<Record, T>;
+
+impl Record {
+    // This record beside the value of an accepted call.
+    fn answered<T>(self, value: T) -> Answered<T>
+        ensures { result ≡ record { «record» = self; answer = Ok value } }
+    {
+        Answered {
+            record: self,
+            answer: Ok(value),
+        }
+    }
+
+    // This record beside a refusal.
+    fn refused<T>(self, why: Refusal) -> Answered<T>
+        ensures { result ≡ record { «record» = self; answer = Err why } }
+    {
+        Answered {
+            record: self,
+            answer: Err(why),
+        }
+    }
 }

@@ -8,7 +8,7 @@ ghost use Rattle.bandwidth.specs.View.{state, outcome, ack_of, reading_of};
 ghost use Rattle.bandwidth.specs.Checked.{Passes};
 ghost use Rattle.bandwidth_wellformed.specs.declared.Totals as totals;
 
-use crate::Record;
+use crate::{Answered, Record};
 use access::{Refusal, check_read, check_write, part};
 use bandwidth_settings::{bw_word, write_alloc};
 use bandwidth_wellformed::Totals;
@@ -55,7 +55,7 @@ impl Record {
     }
 
     pub fn read(
-        &self,
+        self,
         active: &[u32],
         configured: &[u32],
         used: &[u32],
@@ -64,11 +64,16 @@ impl Record {
         waiters: &[u64],
         size: u64,
         offset: u64,
-    ) -> Result<u64, Refusal>
-        ensures { outcome (reading_of result) (state self.now active.now configured.now used.now counters.now events.now waiters.now) ≡ step (state self.now active.now configured.now used.now counters.now events.now waiters.now) (read size offset) }
+    ) -> Answered<u64>
+        ensures { outcome (reading_of result.answer) (state result.«record» active.now configured.now used.now counters.now events.now waiters.now) ≡ step (state self active.now configured.now used.now counters.now events.now waiters.now) (read size offset) }
     {
-        self.check(active, configured, used, counters, events, waiters)?;
-        self.reading(size, offset)
+        if let Err(why) = self.check(active, configured, used, counters, events, waiters) {
+            return self.refused(why);
+        }
+        Answered {
+            record: self,
+            answer: self.reading(size, offset),
+        }
     }
 
     // Stores what a write reaches, and performs its operation.
@@ -112,7 +117,7 @@ impl Record {
     }
 
     pub fn write(
-        &mut self,
+        mut self,
         active: &[u32],
         configured: &mut [u32],
         used: &[u32],
@@ -122,14 +127,19 @@ impl Record {
         size: u64,
         offset: u64,
         value: u64,
-    ) -> Result<(), Refusal>
-        ensures { outcome (ack_of result) (state self.new active.now configured.new used.now counters.new events.new waiters.now) ≡ step (state self.old active.now configured.old used.now counters.old events.old waiters.now) (write size offset value) }
+    ) -> Answered<()>
+        ensures { outcome (ack_of result.answer) (state result.«record» active.now configured.new used.now counters.new events.new waiters.now) ≡ step (state self active.now configured.old used.now counters.old events.old waiters.now) (write size offset value) }
     {
-        let totals = self.check(active, configured, used, counters, events, waiters)?;
-        check_write(size, offset, value)?;
+        let totals = match self.check(active, configured, used, counters, events, waiters) {
+            Ok(totals) => totals,
+            Err(why) => return self.refused(why),
+        };
+        if let Err(why) = check_write(size, offset, value) {
+            return self.refused(why);
+        }
         self.store(
             active, configured, used, counters, events, waiters, totals, offset, value,
         );
-        Ok(())
+        self.answered(())
     }
 }

@@ -7,7 +7,7 @@ ghost use Rattle.bandwidth_model.specs.Model.{requested, step};
 ghost use Rattle.bandwidth.specs.View.{state, outcome, granting_of};
 ghost use Rattle.bandwidth.specs.Checked.{Passes};
 
-use crate::Record;
+use crate::{Answered, Record};
 use access::{Refusal, known_at};
 use bandwidth_grants::{Grant, give};
 use bandwidth_wellformed::Totals;
@@ -85,7 +85,7 @@ impl Record {
     }
 
     pub fn request(
-        &mut self,
+        mut self,
         active: &[u32],
         configured: &[u32],
         used: &mut [u32],
@@ -97,10 +97,10 @@ impl Record {
         at: u64,
         kind: u64,
         bytes: u32,
-    ) -> Result<Grant, Refusal>
-        ensures { outcome (granting_of result) (state self.new active.now configured.now used.new counters.new events.now waiters.now) ≡ step (state self.old active.now configured.now used.old counters.old events.now waiters.now) (request rcid mcid at kind bytes) }
+    ) -> Answered<Grant>
+        ensures { outcome (granting_of result.answer) (state result.«record» active.now configured.now used.new counters.new events.now waiters.now) ≡ step (state self active.now configured.now used.old counters.old events.now waiters.now) (request rcid mcid at kind bytes) }
     {
-        self.request_by(
+        let answer = self.request_by(
             active,
             configured,
             used,
@@ -113,12 +113,16 @@ impl Record {
             at,
             kind,
             bytes,
-        )
+        );
+        Answered {
+            record: self,
+            answer,
+        }
     }
 
     // A device's request, by the IOMMU's mode and the word of its register or of the device context.
     pub fn device_request(
-        &mut self,
+        mut self,
         active: &[u32],
         configured: &[u32],
         used: &mut [u32],
@@ -130,11 +134,11 @@ impl Record {
         at: u64,
         kind: u64,
         bytes: u32,
-    ) -> Result<Grant, Refusal>
-        ensures { outcome (granting_of result) (state self.new active.now configured.now used.new counters.new events.now waiters.now) ≡ step (state self.old active.now configured.now used.old counters.old events.now waiters.now) (device_request mode word at kind bytes) }
+    ) -> Answered<Grant>
+        ensures { outcome (granting_of result.answer) (state result.«record» active.now configured.now used.new counters.new events.now waiters.now) ≡ step (state self active.now configured.now used.old counters.old events.now waiters.now) (device_request mode word at kind bytes) }
     {
         let ids = identifiers_in(mode, word);
-        self.request_by(
+        let answer = self.request_by(
             active,
             configured,
             used,
@@ -147,6 +151,10 @@ impl Record {
             at,
             kind,
             bytes,
-        )
+        );
+        Answered {
+            record: self,
+            answer,
+        }
     }
 }

@@ -8,7 +8,7 @@ ghost use Rattle.bandwidth_setup.specs.View.{setup_of};
 ghost use Rattle.bandwidth.specs.View.{state, outcome, ack_of, reset_row};
 ghost use Rattle.bandwidth.specs.Checked.{Fresh};
 
-use crate::Record;
+use crate::{Answered, Record};
 use access::Refusal;
 use bandwidth_setup::Setup;
 use fields::BwAlloc;
@@ -87,7 +87,7 @@ impl Record {
     }
 
     pub fn reset(
-        &mut self,
+        self,
         active: &mut [u32],
         configured: &mut [u32],
         used: &mut [u32],
@@ -95,17 +95,16 @@ impl Record {
         events: &mut [u16],
         waiters: &mut [u64],
         setup: Setup,
-    ) -> Result<(), Refusal>
-        ensures { outcome (ack_of result) (state self.new active.new configured.new used.new counters.new events.new waiters.new) ≡ step (state self.old active.old configured.old used.old counters.old events.old waiters.old) (reset (setup_of setup)) }
+    ) -> Answered<()>
+        ensures { outcome (ack_of result.answer) (state result.«record» active.new configured.new used.new counters.new events.new waiters.new) ≡ step (state self active.old configured.old used.old counters.old events.old waiters.old) (reset (setup_of setup)) }
     {
         if !setup.in_range() {
-            return Err(Refusal::Setup);
+            return self.refused(Refusal::Setup);
         }
         if !self.lengths_ok(setup, active, configured, used, counters, events, waiters) {
-            return Err(Refusal::Length);
+            return self.refused(Refusal::Length);
         }
         reset_tables(setup, active, configured, used, counters, events, waiters);
-        *self = Record::fresh(setup);
-        Ok(())
+        Record::fresh(setup).answered(())
     }
 }

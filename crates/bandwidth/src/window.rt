@@ -5,8 +5,7 @@ ghost use Rattle.bandwidth_model.specs.Model.{after_window, step};
 ghost use Rattle.bandwidth.specs.View.{state, outcome, ack_of};
 ghost use Rattle.bandwidth.specs.Checked.{Passes};
 
-use crate::Record;
-use access::Refusal;
+use crate::{Answered, Record};
 use bandwidth_waiters::{serve_all, weights_of};
 use bandwidth_wellformed::Totals;
 
@@ -36,18 +35,21 @@ impl Record {
     }
 
     pub fn end_window(
-        &mut self,
+        mut self,
         active: &mut [u32],
         configured: &[u32],
         used: &mut [u32],
         counters: &mut [u64],
         events: &[u16],
         waiters: &mut [u64],
-    ) -> Result<(), Refusal>
-        ensures { outcome (ack_of result) (state self.new active.new configured.now used.new counters.new events.now waiters.new) ≡ step (state self.old active.old configured.now used.old counters.old events.now waiters.old) end_window }
+    ) -> Answered<()>
+        ensures { outcome (ack_of result.answer) (state result.«record» active.new configured.now used.new counters.new events.now waiters.new) ≡ step (state self active.old configured.now used.old counters.old events.now waiters.old) end_window }
     {
-        let totals = self.check(active, configured, used, counters, events, waiters)?;
+        let totals = match self.check(active, configured, used, counters, events, waiters) {
+            Ok(totals) => totals,
+            Err(why) => return self.refused(why),
+        };
         self.open_window(active, configured, used, counters, events, waiters, totals);
-        Ok(())
+        self.answered(())
     }
 }

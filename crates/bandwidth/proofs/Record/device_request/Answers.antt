@@ -3,4 +3,4 @@ use Rattle.bandwidth.proofs.Record.device_request.Goals as goal
 
 pub returns : goal.returns
 returns c =
-    c.request_by.ensures _ (device_is _ _ _ _ _ c.identifiers_in-ids.ensures c.out_of_range.ensures)
+    c.request_by-answer.ensures _ (device_is _ _ _ _ _ c.identifiers_in-ids.ensures c.out_of_range.ensures)
