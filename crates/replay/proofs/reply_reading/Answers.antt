@@ -4,4 +4,4 @@ use Rattle.replay.proofs.reply_reading.Goals as goal
 
 pub returns-in-Ok : goal.returns-in-Ok
 unfolding refusal_of value_of pooled_of
-returns-in-Ok c = rw c.in-Ok.is (record { number = refl; value = refl; pooled = refl })
+returns-in-Ok c = rw c.in-Ok.is (record { number = refl; value = refl; pooled = refl; kept = refl })

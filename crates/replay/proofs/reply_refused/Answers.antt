@@ -4,4 +4,4 @@ use Rattle.replay.proofs.reply_refused.Goals as goal
 
 pub returns : goal.returns
 unfolding refusal_of value_of pooled_of
-returns c = record { number = c.from.ensures; value = refl; pooled = refl }
+returns c = record { number = c.from.ensures; value = refl; pooled = refl; kept = refl }
