@@ -1,24 +1,22 @@
 -- One turn of each pass, and the tables that a pass leaves out.
 use mathlib.Core.Path.{◌≡◌, refl, sym, ap, ◌∙◌}
-use mathlib.Core.Bool.{Bool, true, not, cond, ◌&&◌, ◌||◌}
-use mathlib.Core.List.{List}
+use mathlib.Core.Bool.{true, not, cond, ◌||◌}
+use mathlib.Core.List.{List, [], ◌∷◌, ◌++◌}
 use Prim.Native.Nat.{ℕ, ◌+◌, ◌*◌, ◌/◌, ◌%◌, ◌^◌, ◌≤◌, ◌<◌}
-use native.Mathlib.Nat.{zero-mul, one-mul, suc-mul, mul-le-mul, mul-le-mul_left, mod-eq_of_lt, le_trans}
-use native.Mathlib.Numerals.{add-one}
+use native.Mathlib.Nat.{zero-mul, one-mul, mul-le-mul, mul-le-mul_left, mod-eq_of_lt, le_trans}
 use native.Mathlib.Omega.{arith}
 use borrow.Author.Count.{below_more}
-use lib.Bits.{bit_or, bit_xor, xor_add_and, and_le_l, and_le_r}
+use lib.Bits.{bit_or}
 use lib.Dec.{T, eqb, eqb→eq, leb, leb→le, le→leb}
-use lib.ListN.{length, get_or}
+use lib.ListN.{length, get_or, length-append}
 use lib.Pow.{pow_mono, shr-shr}
-use lib.Seq.{ext_get_or}
 use Rattle.tables.specs.Below.{sum_below, all_below}
 use Rattle.tables.specs.View.{union_below}
 use Rattle.bandwidth_model.specs.Rules.{weight_of, shared_at_of, use_shared_of}
 use Rattle.tables.proofs.Tests.{cases, and_l, and_r, and_in, or_else, is_true, cond_yes, eqb_in, neqb}
-use Rattle.tables.proofs.Laws.{sum_le, sum_zero, all_none, all_next, all_at, all_in}
+use Rattle.tables.proofs.Laws.{sum_le, sum_zero, all_at, all_in}
 use Rattle.tables.proofs.Parts.{row_inside}
-use Rattle.tables.proofs.Union.{zero_union}
+use Rattle.tables.proofs.Union.{zero_union, union_next}
 use Rattle.bandwidth_wellformed.specs.Bits.{form_at, blocks_at, mark_at, sharing_bits, weight_bits, row_right, right_at, row_plain, over_at, AtMost}
 use Rattle.bandwidth_wellformed.specs.Tables.{TableSummed}
 use Rattle.bandwidth_wellformed.proofs.Bits.{or_ge_l, or_ge_r, Has, union_has, union_ge}
@@ -46,33 +44,6 @@ pub blocks_low : (t : List ℕ) (n : ℕ) → sum_below n (blocks_at t) ≤ 6553
 unfolding blocks_at
 blocks_low t n = sum_le n 65535 (blocks_at t) (λ k l. omega arith)
 
--- ---- a test of every row
-
--- r rows are done, the next one begins at base, and ok says whether all that are done pass
-pub record RowsDone (na rows : ℕ) (passes : ℕ → Bool) (ok : Bool) (base r : ℕ) : Type 0 where
-  pub most : r ≤ rows
-  pub next_at : base ≡ r * na
-  pub all : ok ≡ all_below r passes
-
-module _ {na rows : ℕ} {passes : ℕ → Bool} where
-  pub rows_none : RowsDone na rows passes true 0 0
-  rows_none = record { most = omega arith; next_at = sym (zero-mul na); all = sym (all_none passes) }
-
-  module _ {ok : Bool} {base r : ℕ} (d : RowsDone na rows passes ok base r) where
-    -- the next one lies in the table
-    pub rows_inside : r < rows → base + na ≤ rows * na
-    rows_inside l = omega (arith, row_inside rows na r l, d.next_at)
-
-    pub rows_next : r < rows → (x : Bool) → x ≡ passes r → RowsDone na rows passes (ok && x) (base + na) (r + 1)
-    rows_next l x e = record {
-      most = omega arith;
-      next_at = ap (λ (b : ℕ). b + na) d.next_at ∙ rw (add-one, suc-mul);
-      all = rw (d.all, e) (sym (all_next r passes));
-    }
-
-    pub rows_end : rows ≤ r → ok ≡ all_below rows passes
-    rows_end l = let e : r ≡ rows = omega (arith, d.most) in rw e at d.all
-
 -- ---- a number that no word is above
 
 module _ (f : ℕ → ℕ) where
@@ -82,13 +53,17 @@ module _ (f : ℕ → ℕ) where
   pub at_most_next : (i m : ℕ) → AtMost f i m → AtMost f (i + 1) (bit_or m (f i))
   at_most_next i m h = record { each = below_more (λ j. f j ≤ bit_or m (f i)) i (λ j b. le_trans (h.each j b) (or_ge_l m (f i))) (or_ge_r m (f i)) }
 
--- no bits in which two numbers differ
-xor_none : (a b : ℕ) → bit_xor a b ≡ 0 → a ≡ b
-xor_none a b h = omega (arith, xor_add_and a b, and_le_l a b, and_le_r a b)
+-- ---- one turn over pairs: the words of two parts, side by side
 
--- two tables without a bit in which they differ
-pub same_words : (t u : List ℕ) → length t ≡ length u → AtMost (λ k. bit_xor (get_or t k 0) (get_or u k 0)) (length t) 0 → t ≡ u
-same_words t u e h = ext_get_or 0 t u e (λ k b. xor_none (get_or t k 0) (get_or u k 0) (omega (arith, h.each k b)))
+module _ {P : Type 0} (f : ℕ → ℕ) (xs : List P) (p : P) where
+  one_more : length (xs ++ (p ∷ [])) ≡ length xs + 1
+  one_more = length-append xs (p ∷ [])
+
+  pub at_most_pair : (m w : ℕ) → w ≡ f (length xs) → AtMost f (length xs) m → AtMost f (length (xs ++ (p ∷ []))) (bit_or m w)
+  at_most_pair m w e h = rw (one_more, e) (at_most_next f (length xs) m h)
+
+  pub union_pair : (m w : ℕ) → w ≡ f (length xs) → m ≡ union_below (length xs) f → bit_or m w ≡ union_below (length (xs ++ (p ∷ []))) f
+  union_pair m w e h = rw (one_more, e, h) (sym (union_next (length xs) f))
 
 -- ---- tables in which nothing is wrong
 

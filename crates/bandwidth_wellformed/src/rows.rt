@@ -5,7 +5,7 @@ ghost use Rattle.tables.specs.View.{union_below};
 ghost use Rattle.bandwidth_wellformed.specs.Bits.{mark, absent, row_right, right_at, row_plain};
 ghost use Rattle.bandwidth_wellformed.specs.Tables.{Table};
 
-use crate::parts::pick;
+use tables::pick;
 
 // What the word w at AT a says of its row: bit 24 + a, that it has blocks; bit 8 + s, that it shares AT s; bit s, that it names AT s and does not share.
 fn mark_of(a: u32, w: u32) -> u32
@@ -23,114 +23,69 @@ fn absent_of(w: u32) -> u32
 }
 
 // Whether a row is right.
-fn row_right(t: &[u32], base: usize, na: u32) -> bool
-    requires { (na ≤ 8) × (base + na ≤ length t.now) }
-    ensures { result ≡ row_right na t.now base }
+fn row_right<const NA: u32>(t: &[u32], base: usize) -> bool
+    requires { (NA ≤ 8) × (base + NA ≤ length t.now) }
+    ensures { result ≡ row_right NA t.now base }
 {
     let mut m = 0u32;
     let mut some = 0u32;
     let mut less = 0u32;
-    for a in 0..na {
+    for a in 0..NA {
         let w = t[base + a as usize];
-        m = m | mark_of(a, w);
-        some = some | w;
-        less = less | absent_of(w);
+        m |= mark_of(a, w);
+        some |= w;
+        less |= absent_of(w);
     }
     let held = m >> 16 | 1;
     ((m % 65536 | held) - held == 0) & (some & less & 0x0ff0_0000 == 0)
 }
 
 // Whether all rows are: without an exit, so that rows are read side by side.
-fn rows_right(t: &[u32], rows: usize, na: u32) -> bool
-    requires { Table na rows t.now }
-    ensures { result ≡ all_below rows (right_at na t.now) }
+fn rows_right<const NA: u32>(t: &[u32], rows: usize) -> bool
+    requires { Table NA rows t.now }
+    ensures { result ≡ all_below rows (right_at NA t.now) }
 {
     let mut ok = true;
-    let mut base = 0usize;
     for r in 0..rows {
-        ok = ok & row_right(t, base, na);
-        base = base + na as usize;
+        ok &= row_right::<NA>(t, r * NA as usize);
     }
     ok
 }
 
 // Whether a row in which no AT but 0 is named is right.
-fn row_plain(t: &[u32], base: usize, na: u32) -> bool
-    requires { (1 ≤ na) × (base + na ≤ length t.now) }
-    ensures { result ≡ row_plain na t.now base }
+fn row_plain<const NA: u32>(t: &[u32], base: usize) -> bool
+    requires { (1 ≤ NA) × (base + NA ≤ length t.now) }
+    ensures { result ≡ row_plain NA t.now base }
 {
     let mut some = 0u32;
     let mut less = 0u32;
-    for a in 0..na {
+    for a in 0..NA {
         let w = t[base + a as usize];
-        some = some | w;
-        less = less | absent_of(w);
+        some |= w;
+        less |= absent_of(w);
     }
     (some & less & 0x0ff0_0000 == 0) & ((t[base] % 65536 != 0) | (some >> 28 == 0))
 }
 
 // The same of all rows.
-fn rows_plain(t: &[u32], rows: usize, na: u32) -> bool
-    requires { Table na rows t.now }
-    ensures { result ≡ all_below rows (λ k. row_plain na t.now (k * na)) }
+fn rows_plain<const NA: u32>(t: &[u32], rows: usize) -> bool
+    requires { Table NA rows t.now }
+    ensures { result ≡ all_below rows (λ k. row_plain NA t.now (k * NA)) }
 {
     let mut ok = true;
-    let mut base = 0usize;
     for r in 0..rows {
-        ok = ok & row_plain(t, base, na);
-        base = base + na as usize;
+        ok &= row_plain::<NA>(t, r * NA as usize);
     }
     ok
 }
 
 // Whether all rows of a table with the bits `any` are right: the plain ones are found at once.
-fn rows_by(t: &[u32], rows: usize, na: u32, any: u32) -> bool
-    requires { Table na rows t.now × (any ≡ union_below (length t.now) (λ k. get_or t.now k 0)) }
-    ensures { result ≡ all_below rows (right_at na t.now) }
+fn rows_by<const NA: u32>(t: &[u32], rows: usize, any: u32) -> bool
+    requires { Table NA rows t.now × (any ≡ union_below (length t.now) (λ k. get_or t.now k 0)) }
+    ensures { result ≡ all_below rows (right_at NA t.now) }
 {
-    if (any >> 28 == 0) | (any >> 28 == 8) {
-        if rows_plain(t, rows, na) {
-            return true;
-        }
-    }
-    rows_right(t, rows, na)
-}
-
-// The same, compiled for 3, 5, 6 and 7 ATs.
-fn rows_odd(t: &[u32], rows: usize, na: u32, any: u32) -> bool
-    requires { ((2 < na) × ((na < 8) × (na ≡ 4 → ⊥))) × (Table na rows t.now × (any ≡ union_below (length t.now) (λ k. get_or t.now k 0))) }
-    ensures { result ≡ all_below rows (right_at na t.now) }
-{
-    if na == 3 {
-        return rows_by(t, rows, 3, any);
-    }
-    if na == 5 {
-        return rows_by(t, rows, 5, any);
-    }
-    if na == 6 {
-        return rows_by(t, rows, 6, any);
-    }
-    rows_by(t, rows, 7, any)
-}
-
-// The same, compiled for each number of ATs.
-fn rows_each(t: &[u32], rows: usize, na: u32, any: u32) -> bool
-    requires { Table na rows t.now × (any ≡ union_below (length t.now) (λ k. get_or t.now k 0)) }
-    ensures { result ≡ all_below rows (right_at na t.now) }
-{
-    if na == 8 {
-        return rows_by(t, rows, 8, any);
-    }
-    if na == 4 {
-        return rows_by(t, rows, 4, any);
-    }
-    if na == 2 {
-        return rows_by(t, rows, 2, any);
-    }
-    if na == 1 {
-        return rows_right(t, rows, 1);
-    }
-    rows_odd(t, rows, na, any)
+    let plain = (any >> 28 == 0) | (any >> 28 == 8);
+    (plain && rows_plain::<NA>(t, rows)) || rows_right::<NA>(t, rows)
 }
 
 // The same; rows without Mweights in which no AT is named are right, and so are rows of one word that names none.
@@ -141,8 +96,14 @@ pub fn rows_ok(t: &[u32], rows: usize, na: u32, any: u32) -> bool
     if any >> 20 == 0 {
         return true;
     }
-    if (na == 1) & (any >> 28 == 0) {
-        return true;
+    match na {
+        1 => any >> 28 == 0 || rows_right::<1>(t, rows),
+        2 => rows_by::<2>(t, rows, any),
+        3 => rows_by::<3>(t, rows, any),
+        4 => rows_by::<4>(t, rows, any),
+        5 => rows_by::<5>(t, rows, any),
+        6 => rows_by::<6>(t, rows, any),
+        7 => rows_by::<7>(t, rows, any),
+        _ => rows_by::<8>(t, rows, any),
     }
-    rows_each(t, rows, na, any)
 }

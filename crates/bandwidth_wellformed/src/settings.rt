@@ -3,9 +3,10 @@ ghost use Rattle.std.specs.Prelude.{◌≡◌, ◌&&◌, List, ℕ, ◌+◌, ◌
 ghost use Rattle.bandwidth_wellformed.specs.Bits.{form_bits, Scanned};
 ghost use Rattle.bandwidth_wellformed.specs.Tables.{Table, Rows, TableSummed, Summed, TableAdded, Added, SumsFit};
 
-use crate::parts::{all_zero, pick, same, span_at};
+use crate::parts::{Span, all_zero, span_at};
 use crate::rows::rows_ok;
 use crate::usage::over_bits;
+use tables::pick;
 
 // The bits of a settings word that may not be there.
 fn form_bits(w: u32) -> u32
@@ -29,11 +30,10 @@ fn scan_words(t: &[u32]) -> Scan
     let mut any = 0u32;
     let mut form = 0u32;
     let mut blocks = 0u32;
-    for i in 0..t.len() {
-        let w = t[i];
-        any = any | w;
-        form = form | form_bits(w);
-        blocks = blocks + w % 65536;
+    for w in t {
+        any |= w;
+        form |= form_bits(*w);
+        blocks += w % 65536;
     }
     Scan { any, form, blocks }
 }
@@ -46,17 +46,20 @@ pub struct TableSums {
     pub blocks: u32,
 }
 
+// What no rows hold, and rows that are all 0.
+const NOTHING: TableSums = TableSums {
+    form: 0,
+    rows: true,
+    blocks: 0,
+};
+
 // The rows of a table; one that is all 0 is passed over.
 fn sum_table(t: &[u32], rows: usize, na: u32) -> TableSums
     requires { Table na rows t.now }
     ensures { TableSummed na t.now rows result }
 {
     if all_zero(t) {
-        return TableSums {
-            form: 0,
-            rows: true,
-            blocks: 0,
-        };
+        return NOTHING;
     }
     let s = scan_words(t);
     let right = rows_ok(t, rows, na, s.any);
@@ -78,10 +81,11 @@ fn sum_configured(
     requires { (Table na rows active.now × Table na rows configured.now) × TableSummed na active.now rows sums }
     ensures { TableSummed na configured.now rows result }
 {
-    if same(active, configured) {
-        return sums;
+    if active == configured {
+        sums
+    } else {
+        sum_table(configured, rows, na)
     }
-    sum_table(configured, rows, na)
 }
 
 // What rows of the tables in force, configured and used hold.
@@ -118,14 +122,9 @@ pub fn sum_rows(
 pub fn no_sums() -> Sums
     ensures { (na q : ℕ) (active configured used : List ℕ) → Summed na q active configured used 0 result }
 {
-    let none = TableSums {
-        form: 0,
-        rows: true,
-        blocks: 0,
-    };
     Sums {
-        active: none,
-        configured: none,
+        active: NOTHING,
+        configured: NOTHING,
         over: 0,
     }
 }
@@ -170,10 +169,7 @@ pub fn sum_tables(
     let mut sums = no_sums();
     let mut r = 0usize;
     while r < nr {
-        let s = span_at(r, nr, na);
-        let next = s.next;
-        let from = s.from;
-        let to = s.to;
+        let Span { next, from, to } = span_at(r, nr, na);
         let more = sum_rows(
             &active[from..to],
             &configured[from..to],

@@ -3,7 +3,8 @@ ghost use Rattle.std.specs.Prelude.{◌≡◌, cond, ◌*◌, ◌^◌, ◌<◌, 
 ghost use Rattle.tables.specs.View.{union_below};
 ghost use Rattle.bandwidth_wellformed.specs.Bits.{over_at, AtMost};
 
-use crate::parts::{all_zero, pick};
+use crate::parts::all_zero;
+use tables::pick;
 
 // All ones where more than blocks * q bytes are used.
 fn over(used: u32, blocks: u32, q: u32) -> u32
@@ -21,22 +22,14 @@ fn over_shift(used: u32, blocks: u32, shift: u32) -> u32
     pick(used <= blocks << shift, 0, 0xffff_ffff)
 }
 
-// A shift by a power of 2 that is at most q: the largest, which passes over the most.
-fn shift_of(q: u32) -> u32
-    requires { 1 ≤ q }
-    ensures { (result < 32) × (2 ^ result ≤ q) }
-{
-    31 - u32::leading_zeros(q)
-}
-
 // 0 where no word has more bytes used than its blocks shifted.
 fn over_roughly(active: &[u32], used: &[u32], shift: u32) -> u32
     requires { ((shift < 32) × (2 ^ shift ≤ 65536)) × (length active.now ≡ length used.now) }
     ensures { AtMost (over_at (2 ^ shift) active.now used.now) (length used.now) result }
 {
     let mut bits = 0u32;
-    for i in 0..used.len() {
-        bits = bits | over_shift(used[i], active[i] % 65536, shift);
+    for (u, a) in used.iter().zip(active) {
+        bits |= over_shift(*u, a % 65536, shift);
     }
     bits
 }
@@ -47,22 +40,20 @@ fn over_exactly(active: &[u32], used: &[u32], q: u32) -> u32
     ensures { result ≡ union_below (length used.now) (over_at q active.now used.now) }
 {
     let mut bits = 0u32;
-    for i in 0..used.len() {
-        bits = bits | over(used[i], active[i] % 65536, q);
+    for (u, a) in used.iter().zip(active) {
+        bits |= over(*u, a % 65536, q);
     }
     bits
 }
 
-// The same: a part of which nothing is used is passed over, and so is one that is well below its blocks.
+// The same: a part of which nothing is used is passed over, and so is one within its blocks times the largest power of 2 up to q.
 pub fn over_bits(active: &[u32], used: &[u32], q: u32) -> u32
     requires { ((1 ≤ q) × (q ≤ 65536)) × (length active.now ≡ length used.now) }
     ensures { result ≡ union_below (length used.now) (over_at q active.now used.now) }
 {
-    if all_zero(used) {
-        return 0;
+    if all_zero(used) || over_roughly(active, used, q.ilog2()) == 0 {
+        0
+    } else {
+        over_exactly(active, used, q)
     }
-    if over_roughly(active, used, shift_of(q)) == 0 {
-        return 0;
-    }
-    over_exactly(active, used, q)
 }

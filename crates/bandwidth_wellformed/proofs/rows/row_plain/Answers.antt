@@ -18,14 +18,14 @@ unfolding row_plain weight_bits differing
 steps na base some less first t e f g = cc
 
 pub loop-a-init : goal.loop-a-init
-loop-a-init c = (omega arith, (sym (union_none _), sym (union_none _)))
+loop-a-init g c = (sym (union_none _), sym (union_none _))
 
 pub loop-a-preserved : goal.loop-a-preserved
 unfolding absent_at
-loop-a-preserved c = (omega arith, (rw union_next (cc), rw union_next (cc)))
+loop-a-preserved g c = (rw union_next (cc), rw union_next (cc))
 
 pub returns : goal.returns
-returns c =
+returns g c =
     let l = c.loop-a in
-    let e : l.a ≡ c.args.na = omega arith in
-    steps c.args.na c.args.base _ _ _ c.args.t.now (rw e at l.invariant.1.0) (rw e at l.invariant.1.1) refl
+    let e : l.a ≡ g.row.NA = omega arith in
+    steps g.row.NA c.args.base _ _ _ c.args.t.now (rw e at l.invariant.0) (rw e at l.invariant.1) refl

@@ -19,17 +19,17 @@ unfolding row_right sharing_bits lacking weight_bits differing
 steps na base m some less t d e f = cc
 
 pub loop-a-init : goal.loop-a-init
-loop-a-init c = (omega arith, (sym (union_none _), (sym (union_none _), sym (union_none _))))
+loop-a-init g c = (sym (union_none _), (sym (union_none _), sym (union_none _)))
 
 pub loop-a-preserved : goal.loop-a-preserved
 unfolding mark_at absent_at
-loop-a-preserved c = (omega arith, (rw union_next (cc), (rw union_next (cc), rw union_next (cc))))
+loop-a-preserved g c = (rw union_next (cc), (rw union_next (cc), rw union_next (cc)))
 
 pub overflow_sub-result : goal.overflow_sub-result
-overflow_sub-result c = search or_ge_r
+overflow_sub-result g c = search or_ge_r
 
 pub returns : goal.returns
-returns c =
+returns g c =
     let l = c.loop-a in
-    let e : l.a ≡ c.args.na = omega arith in
-    steps c.args.na c.args.base _ _ _ c.args.t.now (rw e at l.invariant.1.0) (rw e at l.invariant.1.1.0) (rw e at l.invariant.1.1.1)
+    let e : l.a ≡ g.row.NA = omega arith in
+    steps g.row.NA c.args.base _ _ _ c.args.t.now (rw e at l.invariant.0) (rw e at l.invariant.1.0) (rw e at l.invariant.1.1)

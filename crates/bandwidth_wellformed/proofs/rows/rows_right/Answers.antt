@@ -1,28 +1,11 @@
-use mathlib.Core.Path.{ap, ◌∙◌}
-use native.Mathlib.Omega.{arith}
-use Rattle.std.proofs.Common.{rules}
-use Rattle.bandwidth_wellformed.specs.Bits.{right_at, row_right}
-use Rattle.bandwidth_wellformed.proofs.Passes.{rows_none, rows_inside, rows_next, rows_end}
+use mathlib.Core.Path.{sym}
+use Rattle.tables.proofs.Laws.{all_none, all_next}
+use Rattle.bandwidth_wellformed.specs.Bits.{right_at}
 use Rattle.bandwidth_wellformed.proofs.rows.rows_right.Goals as goal
 
 pub loop-r-init : goal.loop-r-init
-loop-r-init c = rows_none
-
-pub row_right-ok-requires : goal.row_right-ok-requires
-row_right-ok-requires c =
-    let l = c.loop-r in
-    (search rules, omega (arith, rows_inside l.invariant (search rules), c.requires.long))
-
-pub overflow_add-base : goal.overflow_add-base
-overflow_add-base c =
-    let l = c.loop-r in
-    record { fits = omega (arith, rows_inside l.invariant (search rules), c.requires.few) }
+loop-r-init g c = sym (all_none _)
 
 pub loop-r-preserved : goal.loop-r-preserved
 unfolding right_at
-loop-r-preserved c =
-    let l = c.loop-r in
-    rows_next l.invariant (search rules) _ (c.row_right-ok.ensures ∙ ap (row_right c.args.na c.args.t.now) l.invariant.next_at)
-
-pub returns : goal.returns
-returns c = rows_end c.loop-r.invariant (search rules)
+loop-r-preserved g c = rw all_next (cc)

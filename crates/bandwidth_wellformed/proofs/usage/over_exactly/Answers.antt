@@ -1,16 +1,25 @@
-use mathlib.Core.Path.{◌≡◌, sym}
+use mathlib.Core.Path.{◌≡◌, sym, ap, ◌∙◌}
+use Prim.Native.Nat.{ℕ}
 use native.Mathlib.Omega.{arith}
 use lib.ListN.{length}
-use Rattle.tables.proofs.Union.{union_none, union_next}
+use Rattle.std.proofs.lemmas.Slice.Zip.{zip_turn, zip_end}
+use Rattle.tables.specs.View.{union_below}
+use Rattle.tables.proofs.Union.{union_none}
 use Rattle.bandwidth_wellformed.specs.Bits.{blocks_at, over_at}
+use Rattle.bandwidth_wellformed.proofs.Passes.{union_pair}
 use Rattle.bandwidth_wellformed.proofs.usage.over_exactly.Goals as goal
 
-pub loop-i-init : goal.loop-i-init
-loop-i-init c = (omega arith, sym (union_none _))
+pub loop-u-init : goal.loop-u-init
+loop-u-init c = sym (union_none _)
 
-pub loop-i-preserved : goal.loop-i-preserved
+pub loop-u-preserved : goal.loop-u-preserved
 unfolding over_at blocks_at
-loop-i-preserved c = (omega arith, rw union_next (cc))
+loop-u-preserved c =
+    let z = zip_turn c.args.used.now c.args.active.now c.loop-u.yielded _ _ c.next.new.self _ (cc) (cc) c.loop-u.yielded_by _ c.in-Some.is c.next.ensures.steps in
+    union_pair _ _ _ _ _ (cc (z.2 0, z.3 0)) c.loop-u.invariant
 
 pub returns : goal.returns
-returns c = let e : c.loop-i.i ≡ length c.args.used.now = omega arith in cc
+returns c =
+    let z = zip_end c.args.used.now c.args.active.now c.loop-u.yielded _ _ c.next.new.self _ (cc) (cc) c.loop-u.yielded_by c.in-None.is c.next.ensures.steps in
+    let e : length c.loop-u.yielded ≡ length c.args.used.now = omega (arith, z, c.requires.1) in
+    c.loop-u.invariant ∙ ap (λ (n : ℕ). union_below n (over_at c.args.q c.args.active.now c.args.used.now)) e

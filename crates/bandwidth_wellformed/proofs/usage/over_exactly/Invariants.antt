@@ -1,13 +1,8 @@
 use mathlib.Core.Path.{◌≡◌}
-use Prim.Native.Nat.{◌≤◌, ◌-◌}
 use lib.ListN.{length}
 use Rattle.tables.specs.View.{union_below}
 use Rattle.bandwidth_wellformed.specs.Bits.{over_at}
 use Rattle.bandwidth_wellformed.proofs.usage.over_exactly.Given as goal
 
-abbrev pub invariant-loop-i : goal.invariant-loop-i
-invariant-loop-i l =
-    ((l.i-end ≡ length l.used) × (l.i ≤ l.i-end)) × (l.bits ≡ union_below l.i (over_at l.q l.active l.used))
-
-abbrev pub decreases-loop-i : goal.decreases-loop-i
-decreases-loop-i l = l.i-end - l.i
+abbrev pub invariant-loop-u : goal.invariant-loop-u
+invariant-loop-u l = l.bits ≡ union_below (length l.yielded) (over_at l.q l.active l.used)

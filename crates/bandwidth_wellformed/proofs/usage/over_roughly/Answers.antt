@@ -1,18 +1,19 @@
-use Prim.Native.Nat.{◌^◌}
+use mathlib.Core.Path.{◌≡◌}
 use native.Mathlib.Omega.{arith}
+use lib.ListN.{length}
+use Rattle.std.proofs.lemmas.Slice.Zip.{zip_turn, zip_end}
 use Rattle.bandwidth_wellformed.specs.Bits.{blocks_at, over_at}
-use Rattle.bandwidth_wellformed.proofs.Passes.{at_most_none, at_most_next}
+use Rattle.bandwidth_wellformed.proofs.Passes.{at_most_pair}
 use Rattle.bandwidth_wellformed.proofs.usage.over_roughly.Goals as goal
 
-pub loop-i-init : goal.loop-i-init
-loop-i-init c = (omega arith, at_most_none _ _)
-
-pub loop-i-preserved : goal.loop-i-preserved
+pub loop-u-preserved : goal.loop-u-preserved
 unfolding over_at blocks_at
-loop-i-preserved c =
-    let l = c.loop-i in
-    let a = c.args in
-    (omega arith, rw c.over_shift-bits.ensures (at_most_next (over_at (2 ^ a.shift) a.active.now a.used.now) l.i l.bits l.invariant.1))
+loop-u-preserved c =
+    let z = zip_turn c.args.used.now c.args.active.now c.loop-u.yielded _ _ c.next.new.self _ (cc) (cc) c.loop-u.yielded_by _ c.in-Some.is c.next.ensures.steps in
+    at_most_pair _ _ _ _ _ (cc (z.2 0, z.3 0)) c.loop-u.invariant
 
 pub returns : goal.returns
-returns c = record { each = λ k b. c.loop-i.invariant.1.each k (omega arith) }
+returns c =
+    let z = zip_end c.args.used.now c.args.active.now c.loop-u.yielded _ _ c.next.new.self _ (cc) (cc) c.loop-u.yielded_by c.in-None.is c.next.ensures.steps in
+    let e : length c.loop-u.yielded ≡ length c.args.used.now = omega (arith, z, c.requires.1) in
+    rw e at c.loop-u.invariant
