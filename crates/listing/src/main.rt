@@ -1,51 +1,19 @@
 // Answers the lines of standard input: one read and one write for each chunk.
 #![tactic(auto)]
 
-ghost use Rattle.std.specs.Prelude.{◌≡◌, ◌*◌, ◌≤◌, OnErr, length, take};
+ghost use Rattle.std.specs.Prelude.{◌≡◌, ◌*◌, ◌≤◌, IfOk, OnErr, length, take};
 ghost use Rattle.print.specs.Print.{line_room};
 ghost use Rattle.session.specs.View.{controller_of, Tables};
 ghost use Rattle.stream.specs.Stream.{Fed};
 
 use std::io;
 use std::io::Read;
-use stream::{Progress, State, feed, finish, start};
+use stream::State;
 
-// How many bytes a read put at the start of a chunk, none where it failed, and how it went.
-#[derive(Drop)]
-struct Got {
-    bytes: usize,
-    outcome: io::Result<()>,
-}
-
-// What a chunk led to, how many bytes it had, and how its read went.
-#[derive(Drop)]
-struct Chunk {
-    progress: Progress,
-    got: usize,
-    outcome: io::Result<()>,
-}
-
-// Reads once.
-fn take_in(input: &mut impl Read, chunk: &mut [u8]) -> Got
-    ensures within { result.bytes ≤ length chunk.new }
-    ensures failed { OnErr result.outcome (result.bytes ≡ 0) }
-{
-    match input.read(chunk) {
-        Ok(bytes) => Got {
-            bytes,
-            outcome: Ok(()),
-        },
-        Err(why) => Got {
-            bytes: 0,
-            outcome: Err(why),
-        },
-    }
-}
-
-// Reads once and answers the lines that end there; the bytes read are the first `got` of `chunk`.
+// Reads once and answers the lines that end there: how many bytes were read, the first of `chunk`, and how many answer them. A read that fails changes nothing but `chunk`.
 fn turn(
     input: &mut impl Read,
-    state: State,
+    state: &mut State,
     active: &mut [u32],
     configured: &mut [u32],
     used: &mut [u32],
@@ -54,18 +22,15 @@ fn turn(
     waiters: &mut [u64],
     chunk: &mut [u8],
     out: &mut [u8],
-) -> Chunk
+) -> io::Result<(usize, usize)>
     requires { Tables active.old configured.old used.old counters.old events.old waiters.old × (line_room * length chunk.old ≤ length out.old) }
-    ensures answers { Fed (controller_of state.«record» active.old configured.old used.old counters.old events.old waiters.old) (take state.len state.line) (take result.got chunk.new)
-        (controller_of result.progress.state.«record» active.new configured.new used.new counters.new events.new waiters.new) (take result.progress.state.len result.progress.state.line) out.new result.progress.used }
-    ensures failed { OnErr result.outcome (result.got ≡ 0) }
+    ensures answers { IfOk result (λ r. Fed (controller_of state.old.«record» active.old configured.old used.old counters.old events.old waiters.old) (take state.old.len state.old.line) (take r.0 chunk.new)
+        (controller_of state.new.«record» active.new configured.new used.new counters.new events.new waiters.new) (take state.new.len state.new.line) out.new r.1) }
+    ensures failed { OnErr result ((state.new ≡ state.old) × (active.new ≡ active.old) × (configured.new ≡ configured.old) × (used.new ≡ used.old)
+        × (counters.new ≡ counters.old) × (events.new ≡ events.old) × (waiters.new ≡ waiters.old) × (out.new ≡ out.old)) }
 {
-    let Got {
-        bytes: got,
-        outcome,
-    } = take_in(input, chunk);
-    let progress = feed(
-        state,
+    let got = input.read(chunk)?;
+    let end = state.feed(
         active,
         configured,
         used,
@@ -75,14 +40,38 @@ fn turn(
         &chunk[..got],
         out,
     );
-    Chunk {
-        progress,
-        got,
-        outcome,
-    }
+    Ok((got, end))
 }
 
-// Chunk after chunk until a read has no byte or a write fails, and then the end of input. What failed first is the error.
+// Chunk after chunk until a read has no byte.
+fn hear(
+    input: &mut impl Read,
+    output: &impl Print,
+    state: &mut State,
+    active: &mut [u32],
+    configured: &mut [u32],
+    used: &mut [u32],
+    counters: &mut [u64],
+    events: &mut [u16],
+    waiters: &mut [u64],
+    chunk: &mut [u8],
+    out: &mut [u8],
+) -> io::Result<()>
+    requires { Tables active.old configured.old used.old counters.old events.old waiters.old × ((1 ≤ length chunk.old) × (line_room * length chunk.old ≤ length out.old)) }
+{
+    for _turn in 0..u64::MAX {
+        let (got, end) = turn(
+            input, state, active, configured, used, counters, events, waiters, chunk, out,
+        )?;
+        if got == 0 {
+            break;
+        }
+        output.write_all(&out[..end])?;
+    }
+    Ok(())
+}
+
+// The whole input, and then its end, also where a read or a write failed. What failed first is the error.
 fn listen(
     input: &mut impl Read,
     output: &impl Print,
@@ -97,71 +86,29 @@ fn listen(
 ) -> io::Result<()>
     requires { Tables active.old configured.old used.old counters.old events.old waiters.old × ((1 ≤ length chunk.old) × (line_room * length chunk.old ≤ length out.old)) }
 {
-    let mut state = start();
-    let mut turns = u64::MAX;
-    let mut more = true;
-    let mut outcome = Ok(());
-    while turns > 0 && more {
-        let t = turn(
-            input, state, active, configured, used, counters, events, waiters, chunk, out,
-        );
-        let progress = t.progress;
-        let end = progress.used;
-        let wrote = output.write_all(&out[..end]);
-        more = wrote.is_ok() & (t.got > 0);
-        outcome = t.outcome.and(wrote);
-        state = progress.state;
-        turns -= 1;
-    }
-    let end = finish(
-        state, active, configured, used, counters, events, waiters, out,
+    let mut state = State::start();
+    let heard = hear(
+        input, output, &mut state, active, configured, used, counters, events, waiters, chunk, out,
     );
+    let end = state.finish(active, configured, used, counters, events, waiters, out);
     let wrote = output.write_all(&out[..end]);
-    outcome.and(wrote)
-}
-
-// A word for each of 256 RCIDs and 8 ATs.
-fn room32() -> [u32; 2048]
-    ensures { 2048 ≡ length result }
-{
-    [0; 2048]
-}
-
-// A word for each of 256 MCIDs or RCIDs.
-fn room64() -> [u64; 256]
-    ensures { 256 ≡ length result }
-{
-    [0; 256]
-}
-
-fn room16() -> [u16; 256]
-    ensures { 256 ≡ length result }
-{
-    [0; 256]
-}
-
-fn chunk_room() -> [u8; 8192]
-    ensures { 8192 ≡ length result }
-{
-    [0; 8192]
-}
-
-// Room for a line for each byte of a chunk.
-fn out_room() -> [u8; 344064]
-    ensures { 344064 ≡ length result }
-{
-    [0; 344064]
+    heard.and(wrote)
 }
 
 fn main(rt: HostRuntime) -> io::Result<()> {
-    let mut active = room32();
-    let mut configured = room32();
-    let mut used = room32();
-    let mut counters = room64();
-    let mut events = room16();
-    let mut waiters = room64();
-    let mut chunk = chunk_room();
-    let mut out = out_room();
+    // A word for each of 256 RCIDs and 8 ATs.
+    let mut active = [0; 2048];
+    let mut configured = [0; 2048];
+    let mut used = [0; 2048];
+
+    // A word for each of 256 MCIDs or RCIDs.
+    let mut counters = [0; 256];
+    let mut events = [0; 256];
+    let mut waiters = [0; 256];
+
+    // Room for a line for each byte of a chunk.
+    let mut chunk = [0; 8192];
+    let mut out = [0; 344064];
     listen(
         &mut rt.stdin(),
         &rt,

@@ -8,6 +8,7 @@ use borrow.Author.Tests.{lt-ltb, leb-true, leb-false}
 use lib.Dec.{eqb, leb}
 use lib.ListN.{length, take}
 use lib.Seq.{take_all, take-nil, length-take-le}
+use Rattle.std.specs.Prelude.{Option}
 use Rattle.parse.specs.Parse.{parse_of}
 use Rattle.parse.specs.declared.Command.{Command}
 use Rattle.print.specs.Print.{line_of}
@@ -28,11 +29,11 @@ cut l = by_size l (leb (length l) 81) refl
 
 pub after_cut : (c : Controller) (l : List ℕ) → after_line c (take 81 l) ≡ after_line c l
 unfolding after_line
-after_cut c l = ap (λ (o : Command). (turn_of c o).controller) (cut l)
+after_cut c l = ap (λ (o : Option Command). (turn_of c o).controller) (cut l)
 
 pub printed_cut : (c : Controller) (l : List ℕ) → printed_for c (take 81 l) ≡ printed_for c l
 unfolding printed_for
-printed_cut c l = ap (λ (o : Command). line_of (turn_of c o).reply) (cut l)
+printed_cut c l = ap (λ (o : Option Command). line_of (turn_of c o).reply) (cut l)
 
 pub take_twice : (n : ℕ) (x y : List ℕ) → take n (take n x ++ y) ≡ take n (x ++ y)
 take_twice n [] y = ap (λ (l : List ℕ). take n (l ++ y)) (take-nil n)

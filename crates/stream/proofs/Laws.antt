@@ -6,9 +6,13 @@ use Prim.Native.Nat.{ℕ, zero, suc, ◌+◌, ◌-◌, ◌*◌, ◌≤◌, ◌<�
 use native.Mathlib.Numerals.{add-one}
 use native.Mathlib.Omega.{arith}
 use borrow.Author.Tests.{eq-eqb, ne_eqb}
-use lib.Dec.{eqb}
-use lib.ListN.{length, drop, get_or, take, set, drop_of_length-le}
-use lib.Seq.{drop-cons, drop-drop, drop-length, take_all, take-take, take-suc-set, length-take-le, take-append-le}
+use lib.Dec.{leb, eqb}
+use lib.ListN.{length, length-append, length-drop, drop, get_or, take, drop_of_length-le}
+use borrow.Author.Tests.{leb-true, leb-false}
+use lib.Seq.{take-append-add, drop-cons, drop-drop, drop-length, take_all, take-take, length-take-le}
+use borrow.Rule.Slice.PartMut.{put_mid}
+use Rattle.std.specs.Prelude.{Option, min}
+use Rattle.std.proofs.lemmas.Slice.{take-put_mid, drop-put_mid}
 use Rattle.parse.specs.Parse.{parse_of}
 use Rattle.parse.specs.declared.Command.{Command}
 use Rattle.print.specs.declared.Reply.{Reply}
@@ -19,12 +23,12 @@ use Rattle.session.specs.View.{controller_of, KeptFrom}
 use Rattle.session.proofs.Laws.{kept_both}
 use Rattle.bandwidth.specs.declared.Record.{Record}
 use Rattle.stream.specs.Output.{after_line, printed_for}
-use Rattle.stream.specs.Stream.{Stream, stream, byte, feed_of, last_printed, line_span, Ends, join_of, full_line, Answered, Fed, Finished, KeptBeyond}
+use Rattle.stream.specs.Stream.{Stream, stream, byte, feed_of, last_printed, line_span, Ends, Kept, join_of, full_line, Answered, Fed, Finished, KeptBeyond}
 use Rattle.stream.proofs.Cut.{after_cut, printed_cut, take_twice}
 use Rattle.stream.proofs.Whole.{fed_after, finished_after}
 
 -- parse, act and print are one answer
-pub answered : {c c' : Controller} {line old new : List ℕ} {at r : ℕ} {command : Command} {reply : Reply} → command ≡ parse_of line
+pub answered : {c c' : Controller} {line old new : List ℕ} {at r : ℕ} {command : Option Command} {reply : Reply} → command ≡ parse_of line
     → turn c' reply ≡ turn_of c command → Wrote line_room old at (line_of reply) new r → Answered c line old at c' new r
 unfolding after_line printed_for
 answered {c} {c'} {line} {old} {new} {at} {r} {command} {reply} p q w =
@@ -51,22 +55,29 @@ module _ (s : List ℕ) (i : ℕ) (h : i < length s) where
 
 -- ---- what is held
 
-module _ (line part : List ℕ) (n i : ℕ) (few : n ≤ 81) (long : length line ≡ 81) where
-  pub hold_more : i < length part → n < 81 → take (n + 1) (set line n (get_or part i 0)) ++ drop (i + 1) part ≡ take n line ++ drop i part
-  hold_more h l = rw (add-one n, add-one i, take-suc-set line n (get_or part i 0) (omega arith), drop-cons part i 0 h, append_assoc)
+take_by : (x : Bool) (a b r : ℕ) (l : List ℕ) → leb a b ≡ x → r ≡ min a b → length l ≤ b → take r l ≡ take a l
+take_by true a b r l x e h = let k : a ≤ b = leb-true a b x in ap (λ (n : ℕ). take n l) (omega arith)
+take_by false a b r l x e h = let k : b < a = leb-false a b x in take_all r l (omega arith) ∙ sym (take_all a l (omega arith))
 
-  full : n ≡ 81 → (t : List ℕ) → take 81 (take n line ++ t) ≡ take n line
-  full e t =
-      let z : length (take n line) ≡ n = length-take-le n line (omega arith) in
-      take-append-le 81 (take n line) t (omega arith) ∙ take_all 81 (take n line) (omega arith)
+-- a length beyond the list's own stands for all of it
+pub take_min : (a b r : ℕ) (l : List ℕ) → r ≡ min a b → length l ≤ b → take r l ≡ take a l
+take_min a b r l e h = take_by (leb a b) a b r l refl e h
 
-  pub hold_full : n ≡ 81 → take 81 (take n line ++ drop (i + 1) part) ≡ take 81 (take n line ++ drop i part)
-  hold_full e = full e (drop (i + 1) part) ∙ sym (full e (drop i part))
-
-  pub hold_end : length part ≤ i → take n line ≡ take 81 (take n line ++ drop i part)
-  hold_end h =
-      let z : length (take n line) ≡ n = length-take-le n line (omega arith) in
-      rw (drop_of_length-le part {i = i} h, append-nil) (sym (take_all 81 (take n line) (omega arith)))
+-- a part behind the bytes held, as far as 81 bytes go
+pub held_more : (line part copied : List ℕ) (start more : ℕ) → start ≤ 81 → length line ≡ 81 → more ≡ min (length part) (81 - start) → copied ≡ take more part
+    → Kept line (take 81 (take start line ++ part)) (put_mid start (start + more - start) line copied) (start + more)
+held_more line part copied start more h l m e =
+    let k : length copied ≡ more = rw e (length-take-le more part (omega arith)) in
+    let f : length (take start line) ≡ start = length-take-le start line (omega arith) in
+    let n : length (take start line) + (81 - start) ≡ 81 = omega arith in
+    let s : take 81 (take start line ++ part) ≡ take start line ++ take (81 - start) part = rw n at (take-append-add (take start line) part (81 - start)) in
+    let c : copied ≡ take (81 - start) part = e ∙ take_min (81 - start) (length part) more part (omega arith) (omega arith) in
+    record {
+      is = take-put_mid start (start + more - start) line copied (start + more) (omega arith) (omega arith) ∙ ap (λ (t : List ℕ). take start line ++ t) c ∙ sym s;
+      rest = drop-put_mid start (start + more - start) line copied (start + more) (omega arith) (omega arith) (omega arith);
+      most = omega arith;
+      long = simp (length-append, length-drop) (omega arith);
+    }
 
 pub joined : (held part : List ℕ) → (length held ≡ 0 → ⊥) → take 81 (held ++ part) ≡ join_of held part
 joined [] part h = absurd (h refl)

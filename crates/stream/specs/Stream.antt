@@ -36,11 +36,6 @@ last_printed c (b ∷ l) = printed_for c (b ∷ l)
 
 -- ---- the promises
 
--- r bytes of a line's 81 are the ones that len stands for
-pub record Held (len r : ℕ) : Type 0 where
-  pub most : r ≤ 81
-  pub same : (l : List ℕ) → length l ≡ 81 → take r l ≡ take len l
-
 -- how many bytes stand before the first newline
 unfoldable pub line_span : List ℕ → ℕ
 line_span [] = 0

@@ -13,7 +13,7 @@ pub loop-i-preserved : goal.loop-i-preserved
 loop-i-preserved c =
     let s = c.args.chunk.now in
     let l = c.loop-i in
-    (search rules, search rules, omega (arith, span_more s l.i (omega arith) c.if-chunk-i-eq10.false))
+    omega (arith, span_more s l.i (omega arith) c.if-chunk-i-eq10.false)
 
 pub returns : goal.returns
 returns c =
