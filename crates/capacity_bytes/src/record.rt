@@ -14,22 +14,33 @@ pub fn load_record(bytes: &[u8]) -> Record
     requires { length bytes.now ≡ 80 }
     ensures { words_in result ≡ words_of 8 10 bytes.now }
 {
-    let mut w = [0u64; 10];
-    decode(bytes, &mut w);
-    let setup = Setup {
-        ncblks: w[0],
-        nr: w[1],
-        na: w[2],
-        nm: w[3],
-        w: w[4],
-        units: w[5],
-    };
+    let mut words = [0u64; 10];
+    decode(bytes, &mut words);
+    let [
+        ncblks,
+        nr,
+        na,
+        nm,
+        w,
+        units,
+        mon_ctl,
+        mon_ctr_val,
+        alloc_ctl,
+        block_mask,
+    ] = words;
     Record {
-        setup,
-        mon_ctl: w[6],
-        mon_ctr_val: w[7],
-        alloc_ctl: w[8],
-        block_mask: w[9],
+        setup: Setup {
+            ncblks,
+            nr,
+            na,
+            nm,
+            w,
+            units,
+        },
+        mon_ctl,
+        mon_ctr_val,
+        alloc_ctl,
+        block_mask,
     }
 }
 
@@ -38,7 +49,7 @@ pub fn store_record(record: Record, bytes: &mut [u8])
     ensures { bytes.new ≡ bytes_of_all 8 (words_in «record») }
 {
     let setup = record.setup;
-    let w = [
+    let words = [
         setup.ncblks,
         setup.nr,
         setup.na,
@@ -50,5 +61,5 @@ pub fn store_record(record: Record, bytes: &mut [u8])
         record.alloc_ctl,
         record.block_mask,
     ];
-    encode(&w, bytes);
+    encode(&words, bytes);
 }
