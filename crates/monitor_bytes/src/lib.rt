@@ -2,7 +2,6 @@
 #![tactic(auto)]
 
 ghost use Rattle.std.specs.Prelude.{◌≡◌, cond, List, ℕ, ◌+◌, ◌*◌, ◌^◌, ◌≤◌, ◌<◌, length, get_or, set};
-ghost use Rattle.fields.specs.Registers as reg;
 ghost use Rattle.tables.specs.Below.{all_below};
 ghost use Rattle.tables.specs.Parts.{part};
 ghost use Rattle.words.specs.Words.{bytes_of_all, table_of, Holds};
@@ -21,20 +20,6 @@ pub fn counters_ok(resource: Resource, t: &[u8], w: u32) -> bool
     ensures { result ≡ all_below (length (table_of 8 t.now)) (λ i. counter_ok (counter_fields resource) (counter_ctr resource) w (get_or (table_of 8 t.now) i 0)) }
 {
     union_ok(resource, union64(t), w)
-}
-
-pub fn bandwidth_counters_ok(t: &[u8], w: u32) -> bool
-    requires { w ≤ 62 }
-    ensures { result ≡ all_below (length (table_of 8 t.now)) (λ i. counter_ok reg.bandwidth_counter reg.bandwidth_ctr w (get_or (table_of 8 t.now) i 0)) }
-{
-    counters_ok(Resource::Bandwidth, t, w)
-}
-
-pub fn capacity_counters_ok(t: &[u8], w: u32) -> bool
-    requires { w ≤ 62 }
-    ensures { result ≡ all_below (length (table_of 8 t.now)) (λ i. counter_ok reg.capacity_counter reg.capacity_ctr w (get_or (table_of 8 t.now) i 0)) }
-{
-    counters_ok(Resource::Capacity, t, w)
 }
 
 // Whether n counter settings from `from` on are well formed.
