@@ -13,7 +13,8 @@ use bandwidth_grants::{Grant, give};
 use bandwidth_wellformed::Totals;
 use devices::{identifiers_in, out_of_range};
 use monitor::count_bytes;
-use tables::row_at;
+use std::ops::Range;
+use tables::row_of;
 
 impl Record {
     // Grants a request bytes by the words of its RCID, and counts them.
@@ -37,13 +38,11 @@ impl Record {
     {
         let setup = self.setup;
         let at = known_at(setup.na, at);
-        let place = row_at(setup.nr, setup.na, rcid);
-        let from = place.from;
-        let to = place.to;
+        let Range { start, end } = row_of(setup.nr, setup.na, rcid);
         let given = give(
             setup,
-            &active[from..to],
-            &mut used[from..to],
+            &active[start..end],
+            &mut used[start..end],
             self.pool,
             totals.active,
             at,

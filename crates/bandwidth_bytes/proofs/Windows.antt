@@ -6,7 +6,7 @@ use native.Mathlib.Nat.{le_refl}
 use lib.Dec.{lit<}
 use lib.ListN.{length, get_or, replicate}
 use Rattle.tables.specs.View.{union_below}
-use Rattle.tables.proofs.Laws.{get_d_zeros}
+use Rattle.tables.proofs.Laws.{get_or_zeros}
 use Rattle.tables.proofs.Union.{union_zero}
 use Rattle.words.specs.Words.{with_word, table_of}
 use Rattle.words.proofs.Table.{zero_bytes}
@@ -28,7 +28,7 @@ use Rattle.bandwidth_bytes.proofs.Calls.{window_ended}
 -- the words of cleared bytes
 cleared_words : (n : ℕ) → table_of 4 (replicate (n * 4) 0) ≡ replicate n 0
 cleared_words n =
-    ap (table_of 4) (sym (zero_bytes 4 n)) ∙ table_bytes 4 (replicate n 0) (lit< tt) (λ i. rw (get_d_zeros n i) (lit< tt))
+    ap (table_of 4) (sym (zero_bytes 4 n)) ∙ table_bytes 4 (replicate n 0) (lit< tt) (λ i. rw (get_or_zeros n i) (lit< tt))
 
 module _ {l : Lent} {h : Held} (p : Passing l h) where
   abbrev su : Setup

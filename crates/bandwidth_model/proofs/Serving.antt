@@ -8,7 +8,7 @@ use native.Mathlib.Omega.{arith}
 use lib.Dec.{T, eqb, eqb→eq}
 use lib.ListN.{get_or, set}
 use lib.Seq.{get_or-set_other}
-use Rattle.tables.proofs.Laws.{get_d_zeros}
+use Rattle.tables.proofs.Laws.{get_or_zeros}
 use Rattle.tables.proofs.Tests.{cases, neqb, cond_same}
 use Rattle.access.specs.Pairs.{pair, word_at}
 use Rattle.bandwidth_model.specs.Rules.{Setup, pairs, weight_of, shared_at_of, use_shared_of, is_holder, is_sharer, Holder, nobody, held, holder_of, pool_of}
@@ -197,7 +197,7 @@ module _ (su : Setup) (table waiters : List ℕ) where
     table_is = refl;
     same = refl;
     spent = spent_none su table;
-    unused = λ j l. get_d_zeros (pairs su) j;
+    unused = λ j l. get_or_zeros (pairs su) j;
     shares = omega arith;
   }
 

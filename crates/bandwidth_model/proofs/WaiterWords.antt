@@ -10,7 +10,7 @@ use Rattle.fields.specs.Layout.{pack, unpack, named_bits}
 use Rattle.fields.specs.Registers as reg
 use Rattle.fields.proofs.Laws.{unpack_pack, pack_kept, get_lt, get_zero}
 use Rattle.fields.proofs.Registers.{waiter_ordered}
-use Rattle.tables.proofs.Laws.{every_set, get_d_zeros}
+use Rattle.tables.proofs.Laws.{every_set, get_or_zeros}
 use Rattle.tables.proofs.Tests.{cases, and_l, and_r, and_in, or_else, or_r, eqb_in, neqb, neqb_in, cond_no}
 use Rattle.access.specs.Pairs.{known_at}
 use Rattle.access.proofs.Pairs.{known_lt}
@@ -154,7 +154,7 @@ ok_0 su = tt
 
 -- none waits
 pub waiters_none : (su : Setup) → WaiterFacts su (replicate su.nr 0)
-waiters_none su = record { long = length-replicate su.nr 0; words = λ rcid. rw (get_d_zeros su.nr rcid) (ok_0 su) }
+waiters_none su = record { long = length-replicate su.nr 0; words = λ rcid. rw (get_or_zeros su.nr rcid) (ok_0 su) }
 
 pub waiters_set : (su : Setup) (waiters : List ℕ) (rcid word : ℕ) → WaiterFacts su waiters → T (waiter_ok su word) → WaiterFacts su (set waiters rcid word)
 waiters_set su waiters rcid word f t = record {

@@ -21,7 +21,7 @@ use bandwidth_setup::Setup;
 use codes::Resource;
 use fields::BwAlloc;
 use std::ops::Range;
-use tables::{Row, pick, row_at, row_of, store};
+use tables::{pick, row_of, store};
 
 pub fn is_holder(word: u64) -> bool
     ensures { result ≡ is_holder word }
@@ -132,14 +132,6 @@ pub fn row_named(setup: Setup, v: u64) -> Range<usize>
     ensures { RowAt setup.nr setup.na (rcid_of v) result.start result.end }
 {
     row_of(setup.nr, setup.na, held_fields(setup.na, v).rcid)
-}
-
-// The same as a row.
-pub fn named_row(setup: Setup, v: u64) -> Row
-    requires { Ranges (setup_of setup) }
-    ensures { RowAt setup.nr setup.na (rcid_of v) result.from result.to }
-{
-    row_at(setup.nr, setup.na, held_fields(setup.na, v).rcid)
 }
 
 // The write of v to alloc_ctl by the words of the RCID that v names: stores the fields and performs the operation. `reserved` is what the configured table reserves.

@@ -13,7 +13,7 @@ use Rattle.fields.specs.Registers as reg
 use Rattle.fields.proofs.Laws.{get_lt}
 use Rattle.tables.specs.Parts.{RowAt}
 use Rattle.tables.proofs.Tests.{cases, neqb}
-use Rattle.tables.proofs.Laws.{get_d_zeros}
+use Rattle.tables.proofs.Laws.{get_or_zeros}
 use Rattle.access.specs.Pairs.{pair}
 use Rattle.monitor.specs.Monitor.{Monitor, counted}
 use Rattle.bandwidth_model.specs.Rules.{Setup, pairs, Holder, nobody, held, holder_of, total, pool_of}
@@ -95,7 +95,7 @@ module _ {su : Setup} {active waiters : List ℕ} (o : Opens su active waiters) 
     counters_are = refl;
     waiters_are = refl;
     found = λ i l. refl;
-    unused = λ i l. get_d_zeros (pairs su) i;
+    unused = λ i l. get_or_zeros (pairs su) i;
     used_long = length-replicate (pairs su) 0;
     pool_low = omega arith;
   }

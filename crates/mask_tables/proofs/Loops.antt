@@ -15,7 +15,7 @@ use Rattle.tables.specs.Below.{sum_of}
 use Rattle.tables.specs.Parts.{with_part}
 use Rattle.tables.specs.View.{union_below}
 use Rattle.tables.proofs.Tests.{cases, neqb}
-use Rattle.tables.proofs.Laws.{get_d_zeros, drop_replicate, sum_of_none, sum_of_cons}
+use Rattle.tables.proofs.Laws.{get_or_zeros, drop_replicate, sum_of_none, sum_of_cons}
 use Rattle.tables.proofs.Parts.{row_inside}
 use Rattle.tables.proofs.Union.{union_none, union_next, union_same}
 use Rattle.numbers.specs.Numbers.{value, words_for, number_in, words_of}
@@ -45,7 +45,7 @@ pub record Loaded (f : ℕ → ℕ) (mask : List ℕ) (i : ℕ) : Type 0 where
 
 module _ {f : ℕ → ℕ} where
   pub loaded_none : Loaded f (replicate 16 0) 0
-  loaded_none = record { long = refl; done = λ k b. absurd (omega arith); rest = λ k b. get_d_zeros 16 k }
+  loaded_none = record { long = refl; done = λ k b. absurd (omega arith); rest = λ k b. get_or_zeros 16 k }
 
   pub loaded_next : {mask : List ℕ} {i w : ℕ} → i < 16 → w ≡ f i → Loaded f mask i → Loaded f (set mask i w) (i + 1)
   loaded_next {mask} {i} {w} l e d = record {
@@ -69,7 +69,7 @@ loaded_front n x {front} l e =
     record {
       long = rw (rest, length-append) (omega arith);
       done = λ k b. get_or-append front (drop n (replicate 16 0)) 0 k (omega arith) ∙ ap (λ t. get_or t k 0) e ∙ get_or-replicate n k x 0 b;
-      rest = λ k b. let at : k ≡ length front + (k - n) = omega arith in rw (at, get_or-append-add, rest) (get_d_zeros (16 - n) (k - n));
+      rest = λ k b. let at : k ≡ length front + (k - n) = omega arith in rw (at, get_or-append-add, rest) (get_or_zeros (16 - n) (k - n));
     }
 
 -- all of c bits, once the highest word is set

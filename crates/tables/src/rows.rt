@@ -16,26 +16,3 @@ pub fn row_of(nr: u64, na: u64, rcid: u64) -> Range<usize>
         0..0
     }
 }
-
-// Where they begin and end.
-#[derive(Clone, Copy)]
-pub struct Row {
-    pub from: usize,
-    pub to: usize,
-}
-
-// The words of an RCID; none where there is no such RCID.
-pub fn row_at(nr: u64, na: u64, rcid: u64) -> Row
-    requires { (nr ≤ 256) × (na ≤ 8) }
-    ensures { RowAt nr na rcid result.from result.to }
-{
-    if rcid < nr {
-        let from = (rcid * na) as usize;
-        Row {
-            from,
-            to: from + na as usize,
-        }
-    } else {
-        Row { from: 0, to: 0 }
-    }
-}

@@ -1,4 +1,4 @@
-use Rattle.std.proofs.Common.{true, false, sym}
+use Rattle.std.proofs.Common.{true, false}
 use Rattle.std.proofs.lemmas.Result.{err_from_is_err_and}
 use Rattle.access.proofs.Access.{write_failed, write_passed}
 use Rattle.access.proofs.Refusals.{number_pos}
