@@ -116,9 +116,6 @@ module _ (k : ℕ) (bs : List ℕ) where
   unfolding table_of
   entry_in i w h e = e ∙ sym (word_at k (length bs / k) i bs h)
 
-  pub entry_out : (i : ℕ) → length bs / k ≤ i → 0 ≡ get_or (table_of k bs) i 0
-  entry_out i h = sym (get_or-eq_default (table_of k bs) 0 {n = i} (omega (arith, entries)))
-
 -- the same over what a read gives where there is no word
 module _ (k : ℕ) (bs : List ℕ) where
   pub entry_at : (i w d : ℕ) → i < length bs / k → w ≡ word_of (take k (drop (i * k) bs)) → w ≡ get_or (table_of k bs) i d

@@ -1,7 +1,0 @@
-use native.Mathlib.Omega.{arith}
-use Rattle.words.proofs.OneWord.{word_join}
-use Rattle.words.proofs.load16.Goals as goal
-
-pub returns : goal.returns
-returns c = let a = c.args in
-    (omega (arith, word_join 1 1 a.at a.b.now (omega arith)), omega arith)

@@ -1,6 +1,0 @@
-use native.Mathlib.Omega.{arith}
-use Rattle.words.proofs.OneWord.{store_byte}
-use Rattle.words.proofs.store8.Goals as goal
-
-pub returns : goal.returns
-returns c = store_byte c.args.at c.args.w c.args.b.now (omega arith)
