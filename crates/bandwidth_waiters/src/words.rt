@@ -4,13 +4,13 @@ ghost use Rattle.fields.specs.View.{InRange, of_waiter};
 ghost use Rattle.fields.specs.Registers as reg;
 ghost use Rattle.tables.specs.Below.{all_below};
 ghost use Rattle.access.specs.Checks.{first};
-ghost use Rattle.access.specs.View.{verdict_of, refusal_in};
+ghost use Rattle.access.specs.View.{refusal_in};
 ghost use Rattle.bandwidth_model.specs.View.{Ranges};
 ghost use Rattle.bandwidth_model.specs.Model.{wait_checks};
 ghost use Rattle.bandwidth_model.specs.Waiters.{need_of, waiter_word, put_word, served_word, waiter_ok};
 ghost use Rattle.bandwidth_setup.specs.View.{setup_of};
 
-use access::{Refusal, Verdict, known_at};
+use access::{Refusal, known_at};
 use bandwidth_setup::Setup;
 use fields::Waiter;
 use tables::pick;
@@ -28,22 +28,6 @@ fn waiter_word(waiter: Waiter) -> u64
     ensures { result ≡ waiter_word waiter.need waiter.mcid waiter.at waiter.write }
 {
     if waiter.need == 0 { 0 } else { waiter.pack() }
-}
-
-// Checks 7, 10 and 11 of a request that is put to wait, by the word under its RCID.
-pub fn wait_verdict(setup: Setup, word: u64, rcid: u64, mcid: u64, bytes: u32) -> Verdict
-    ensures { (waiters : List ℕ) → word ≡ get_or waiters rcid 0 → verdict_of result ≡ first (wait_checks (setup_of setup) waiters rcid mcid bytes) 0 }
-{
-    if (setup.nr <= rcid) | (setup.nm <= mcid) {
-        return Verdict::Failed(Refusal::Identifier);
-    }
-    if word != 0 {
-        return Verdict::Failed(Refusal::AlreadyWaits);
-    }
-    if bytes == 0 {
-        return Verdict::Failed(Refusal::NoBytes);
-    }
-    Verdict::Passed
 }
 
 // Checks 7, 10 and 11 of a request that is put to wait, by the word under its RCID.
