@@ -11,24 +11,37 @@ pub fn load_record(bytes: &[u8]) -> Record
     requires { length bytes.now ≡ 96 }
     ensures { words_in result ≡ words_of 8 12 bytes.now }
 {
-    let mut w = [0u64; 12];
-    decode(bytes, &mut w);
-    let setup = Setup {
-        nbwblks: w[0],
-        mrbwb: w[1],
-        nr: w[2],
-        na: w[3],
-        nm: w[4],
-        q: w[5],
-        w: w[6],
-    };
+    let mut words = [0u64; 12];
+    decode(bytes, &mut words);
+    let [
+        nbwblks,
+        mrbwb,
+        nr,
+        na,
+        nm,
+        q,
+        w,
+        mon_ctl,
+        mon_ctr_val,
+        alloc_ctl,
+        bw_alloc,
+        pool,
+    ] = words;
     Record {
-        setup,
-        mon_ctl: w[7],
-        mon_ctr_val: w[8],
-        alloc_ctl: w[9],
-        bw_alloc: w[10],
-        pool: w[11],
+        setup: Setup {
+            nbwblks,
+            mrbwb,
+            nr,
+            na,
+            nm,
+            q,
+            w,
+        },
+        mon_ctl,
+        mon_ctr_val,
+        alloc_ctl,
+        bw_alloc,
+        pool,
     }
 }
 
@@ -37,7 +50,7 @@ pub fn store_record(record: Record, bytes: &mut [u8])
     ensures { bytes.new ≡ bytes_of_all 8 (words_in «record») }
 {
     let setup = record.setup;
-    let w = [
+    let words = [
         setup.nbwblks,
         setup.mrbwb,
         setup.nr,
@@ -51,5 +64,5 @@ pub fn store_record(record: Record, bytes: &mut [u8])
         record.bw_alloc,
         record.pool,
     ];
-    encode(&w, bytes);
+    encode(&words, bytes);
 }

@@ -16,7 +16,7 @@ fn zero_words(b: &[u8], from: usize, n: usize) -> bool
 {
     let mut bits = 0u32;
     for i in 0..n {
-        bits = bits | u32::load(b, (from + i) * 4);
+        bits |= u32::load(b, (from + i) * 4);
     }
     bits == 0
 }

@@ -18,7 +18,7 @@ pub fn waiters_ok(setup: Setup, t: &[u8]) -> bool
     }
     let mut bits = 0u64;
     for i in 0..t.len() / 8 {
-        bits = bits | bad_waiter(setup, word(t, i, 0));
+        bits |= bad_waiter(setup, word(t, i, 0));
     }
     bits == 0
 }

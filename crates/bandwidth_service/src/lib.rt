@@ -68,7 +68,7 @@ pub fn weights_of(setup: Setup, active: &[u8], waiters: &[u8]) -> u64
 {
     let mut sum = 0u64;
     for rcid in 0..waiters.len() / 8 {
-        sum = sum + weight_at(setup, active, waiters, rcid);
+        sum += weight_at(setup, active, waiters, rcid);
     }
     sum
 }
