@@ -6,7 +6,7 @@ ghost use Rattle.bandwidth_model.specs.Waiters.{waiter_ok};
 ghost use Rattle.bandwidth_setup.specs.View.{setup_of};
 
 use bandwidth_setup::Setup;
-use bandwidth_waiters::bad_waiter;
+use bandwidth_waiters::waiter_ok;
 use words::{union64, word};
 
 // Whether every word is one that a call stores; where none waits, the union of all tells.
@@ -16,9 +16,9 @@ pub fn waiters_ok(setup: Setup, t: &[u8]) -> bool
     if union64(t) == 0 {
         return true;
     }
-    let mut bits = 0u64;
+    let mut ok = true;
     for i in 0..t.len() / 8 {
-        bits |= bad_waiter(setup, word(t, i, 0));
+        ok &= waiter_ok(setup, word(t, i, 0));
     }
-    bits == 0
+    ok
 }

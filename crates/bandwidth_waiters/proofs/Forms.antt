@@ -1,6 +1,6 @@
 -- The words of waiters: the tests that check 3 makes of one are the definition's.
 use mathlib.Core.Path.{◌≡◌, sym, subst, ◌∙◌}
-use mathlib.Core.Bool.{true, cond, ◌&&◌, ◌||◌}
+use mathlib.Core.Bool.{true, ◌&&◌, ◌||◌}
 use mathlib.Core.List.{List}
 use Prim.Native.Nat.{ℕ, ◌/◌, ◌%◌, ◌^◌}
 use native.Mathlib.Nat.{mod-eq_of_lt, mod-lt}
@@ -16,7 +16,7 @@ use Rattle.tables.specs.Below.{all_below}
 use Rattle.tables.specs.View.{union_below}
 use Rattle.tables.proofs.Tests.{or_l, eqb_in, is_true, same_test}
 use Rattle.tables.proofs.Laws.{all_in}
-use Rattle.tables.proofs.Union.{union_zero, none_bad, low_test}
+use Rattle.tables.proofs.Union.{union_zero, low_test}
 use Rattle.bandwidth_model.specs.Rules.{Setup}
 use Rattle.bandwidth_model.specs.Waiters.{need_of, waiter_mcid, waiter_at, waiter_ok}
 
@@ -36,14 +36,6 @@ pub waiter_test : (su : Setup) (word : ℕ) {need mcid at : ℕ} → need ≡ ne
     → (eqb word 0 || (leb 1 need && ltb mcid su.nm && ltb at su.na && eqb (word / 2 ^ 44) 0)) ≡ waiter_ok su word
 unfolding waiter_ok
 waiter_test su word e f g = rw (e, f, g, high_test word)
-
--- all words, by a union of what is bad in each
-unfoldable pub bad_at : Setup → List ℕ → ℕ → ℕ
-bad_at su t i = cond (waiter_ok su (get_or t i 0)) 0 1
-
-pub waiters_test : (su : Setup) (t : List ℕ) (n : ℕ) → eqb (union_below n (bad_at su t)) 0 ≡ all_below n (λ i. waiter_ok su (get_or t i 0))
-unfolding bad_at
-waiters_test su t n = none_bad n 0 (λ i. waiter_ok su (get_or t i 0))
 
 -- where the union of all words is 0, none waits
 pub none_waits : (su : Setup) (t : List ℕ) → union_below (length t) (λ i. get_or t i 0) ≡ 0 → true ≡ all_below (length t) (λ i. waiter_ok su (get_or t i 0))

@@ -18,7 +18,7 @@ use bandwidth_setup::Setup;
 use fields::field;
 pub use service::{serve_all, weights_of};
 use tables::pick;
-pub use words::{bad_waiter, check_wait, need_of, put_word, served_word, waiters_ok};
+pub use words::{check_wait, need_of, put_word, served_word, waiter_ok, waiters_ok};
 
 // A holder's word in force, by its RCID's words; 0 for nobody.
 fn held_word(row: &[u32], holder: Option<u64>) -> u64

@@ -1,5 +1,5 @@
 // The words of waiters.
-ghost use Rattle.std.specs.Prelude.{◌≡◌, cond, List, ℕ, ◌<◌, length, get_or};
+ghost use Rattle.std.specs.Prelude.{◌≡◌, List, ℕ, ◌<◌, length, get_or};
 ghost use Rattle.fields.specs.View.{InRange, of_waiter};
 ghost use Rattle.fields.specs.Registers as reg;
 ghost use Rattle.tables.specs.Below.{all_below};
@@ -72,25 +72,25 @@ pub fn served_word(word: u64, bytes: u64) -> u64
     })
 }
 
-// 0 where a word is one that a call stores, else 1.
-pub fn bad_waiter(setup: Setup, word: u64) -> u64
-    ensures { result ≡ cond (waiter_ok (setup_of setup) word) 0 1 }
+// Whether a word is one that a call stores.
+pub fn waiter_ok(setup: Setup, word: u64) -> bool
+    ensures { result ≡ waiter_ok (setup_of setup) word }
 {
     let waiter = Waiter::unpack(word);
     let stored = (1 <= waiter.need)
         & (waiter.mcid < setup.nm)
         & (waiter.at < setup.na)
         & (word >> 44 == 0);
-    pick((word == 0) | stored, 0, 1)
+    (word == 0) | stored
 }
 
 // Whether every word of a table is one that a call stores.
 pub fn waiters_ok(setup: Setup, t: &[u64]) -> bool
     ensures { result ≡ all_below (length t.now) (λ i. waiter_ok (setup_of setup) (get_or t.now i 0)) }
 {
-    let mut bits = 0u64;
+    let mut ok = true;
     for w in t {
-        bits |= bad_waiter(setup, *w);
+        ok &= waiter_ok(setup, *w);
     }
-    bits == 0
+    ok
 }
