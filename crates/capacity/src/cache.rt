@@ -13,7 +13,7 @@ ghost use Rattle.capacity_masks.specs.View.{setup_of};
 ghost use Rattle.capacity.specs.View.{state, outcome, ack_of, filling_of};
 ghost use Rattle.capacity.specs.Checked.{Passed, FillAnswered, evict_left};
 
-use crate::Record;
+use crate::{Answered, Record};
 use access::{Refusal, known_at};
 use capacity_masks::{Setup, has_block};
 use tables::word;
@@ -75,7 +75,7 @@ impl Record {
 
     // Whether the fill is allowed.
     pub fn fill(
-        &self,
+        self,
         masks: &[u64],
         counters: &mut [u64],
         events: &[u16],
@@ -84,34 +84,43 @@ impl Record {
         mcid: u64,
         at: u64,
         unit: u64,
-    ) -> Result<bool, Refusal>
-        ensures { outcome (filling_of result) (state self.now masks.now counters.new events.now owners.new) ≡ step (state self.now masks.now counters.old events.now owners.old) (fill rcid mcid at unit) }
+    ) -> Answered<bool>
+        ensures { outcome (filling_of result.answer) (state result.«record» masks.now counters.new events.now owners.new) ≡ step (state self masks.now counters.old events.now owners.old) (fill rcid mcid at unit) }
     {
-        self.check(masks, counters, events, owners)?;
+        if let Err(why) = self.check(masks, counters, events, owners) {
+            return self.refused(why);
+        }
         let setup = self.setup;
         let mask = word(masks, setup.pair_at(rcid, at), 0);
-        let allowed = self.filling(mask, rcid, mcid, unit)?;
+        let allowed = match self.filling(mask, rcid, mcid, unit) {
+            Ok(allowed) => allowed,
+            Err(why) => return self.refused(why),
+        };
         if allowed {
             let known = known_at(setup.na, at);
             let i = unit as usize;
             unit_tables::fill(setup.w, owners, counters, events, rcid, mcid, known, i);
         }
-        Ok(allowed)
+        self.answered(allowed)
     }
 
     pub fn evict(
-        &self,
+        self,
         masks: &[u64],
         counters: &mut [u64],
         events: &[u16],
         owners: &mut [u32],
         unit: u64,
-    ) -> Result<(), Refusal>
-        ensures { outcome (ack_of result) (state self.now masks.now counters.new events.now owners.new) ≡ step (state self.now masks.now counters.old events.now owners.old) (evict unit) }
+    ) -> Answered<()>
+        ensures { outcome (ack_of result.answer) (state result.«record» masks.now counters.new events.now owners.new) ≡ step (state self masks.now counters.old events.now owners.old) (evict unit) }
     {
-        self.check(masks, counters, events, owners)?;
-        self.evicting(unit)?;
+        if let Err(why) = self.check(masks, counters, events, owners) {
+            return self.refused(why);
+        }
+        if let Err(why) = self.evicting(unit) {
+            return self.refused(why);
+        }
         unit_tables::evict(owners, counters, events, unit as usize);
-        Ok(())
+        self.answered(())
     }
 }

@@ -1,11 +1,14 @@
 // The capacity controller: its record, and the calls on it.
 #![tactic(auto)]
 
+ghost use Rattle.std.specs.Prelude.{◌≡◌, Ok, Err};
+
 mod cache;
 mod check;
 mod registers;
 mod reset;
 
+use access::Refusal;
 use capacity_masks::Setup;
 
 // The set-up, and the registers as they read.
@@ -26,4 +29,29 @@ pub struct WriteWords {
     pub counter: u64,
     pub setting: u16,
     pub flushes: bool,
+}
+
+// What a call hands back: the record beside the answer.
+pub type Answered<T> = access::Answered<Record, T>;
+
+impl Record {
+    // This record beside the value of an accepted call.
+    fn answered<T>(self, value: T) -> Answered<T>
+        ensures { result ≡ record { «record» = self; answer = Ok value } }
+    {
+        Answered {
+            record: self,
+            answer: Ok(value),
+        }
+    }
+
+    // This record beside a refusal.
+    fn refused<T>(self, why: Refusal) -> Answered<T>
+        ensures { result ≡ record { «record» = self; answer = Err why } }
+    {
+        Answered {
+            record: self,
+            answer: Err(why),
+        }
+    }
 }

@@ -10,7 +10,7 @@ ghost use Rattle.capacity.specs.View.{state, outcome, ack_of, reading_of};
 ghost use Rattle.capacity.specs.Checked.{Passed, WordsIn, wrote, write_left};
 
 use crate::cache::flush_if;
-use crate::{Record, WriteWords};
+use crate::{Answered, Record, WriteWords};
 use access::{Refusal, check_read, check_write, part, replaced};
 use capacity_masks::{alloc_after, mask_of, named_pair, named_rcid};
 use codes::Resource;
@@ -56,18 +56,23 @@ impl Record {
     }
 
     pub fn read(
-        &self,
+        self,
         masks: &[u64],
         counters: &[u64],
         events: &[u16],
         owners: &[u32],
         size: u64,
         offset: u64,
-    ) -> Result<u64, Refusal>
-        ensures { outcome (reading_of result) (state self.now masks.now counters.now events.now owners.now) ≡ step (state self.now masks.now counters.now events.now owners.now) (read size offset) }
+    ) -> Answered<u64>
+        ensures { outcome (reading_of result.answer) (state result.«record» masks.now counters.now events.now owners.now) ≡ step (state self masks.now counters.now events.now owners.now) (read size offset) }
     {
-        self.check(masks, counters, events, owners)?;
-        self.reading(size, offset)
+        if let Err(why) = self.check(masks, counters, events, owners) {
+            return self.refused(why);
+        }
+        Answered {
+            record: self,
+            answer: self.reading(size, offset),
+        }
     }
 
     // Stores what an accepted write reaches, and performs its operation on the words that its value names.
@@ -136,7 +141,7 @@ impl Record {
     }
 
     pub fn write(
-        &mut self,
+        self,
         masks: &mut [u64],
         counters: &mut [u64],
         events: &mut [u16],
@@ -144,25 +149,29 @@ impl Record {
         size: u64,
         offset: u64,
         value: u64,
-    ) -> Result<(), Refusal>
-        ensures { outcome (ack_of result) (state self.new masks.new counters.new events.new owners.new) ≡ step (state self.old masks.old counters.old events.old owners.old) (write size offset value) }
+    ) -> Answered<()>
+        ensures { outcome (ack_of result.answer) (state result.«record» masks.new counters.new events.new owners.new) ≡ step (state self masks.old counters.old events.old owners.old) (write size offset value) }
     {
-        self.check(masks, counters, events, owners)?;
+        if let Err(why) = self.check(masks, counters, events, owners) {
+            return self.refused(why);
+        }
         let p = named_pair(self.setup, value);
         let i = named_mcid(value);
-        let left = self.write_words(
+        let left = match self.write_words(
             word(masks, p, 0),
             word(counters, i, 0),
             word(events, i, 0),
             size,
             offset,
             value,
-        )?;
+        ) {
+            Ok(left) => left,
+            Err(why) => return self.refused(why),
+        };
         put(masks, p, left.mask);
         put(counters, i, left.counter);
         put(events, i, left.setting);
         flush_if(left.flushes, owners, counters, events, named_rcid(value));
-        *self = left.record;
-        Ok(())
+        left.record.answered(())
     }
 }

@@ -7,8 +7,7 @@ ghost use Rattle.capacity_model.specs.Model.{step};
 ghost use Rattle.capacity_masks.specs.View.{setup_of};
 ghost use Rattle.capacity.specs.View.{state, outcome, ack_of};
 
-use crate::Record;
-use access::Refusal;
+use crate::{Answered, Record};
 use capacity_masks::{Setup, all_blocks};
 
 // The masks of a reset: every block for each AT of RCID 0, and else none.
@@ -36,21 +35,22 @@ impl Record {
     }
 
     pub fn reset(
-        &mut self,
+        self,
         masks: &mut [u64],
         counters: &mut [u64],
         events: &mut [u16],
         owners: &mut [u32],
         setup: Setup,
-    ) -> Result<(), Refusal>
-        ensures { outcome (ack_of result) (state self.new masks.new counters.new events.new owners.new) ≡ step (state self.old masks.old counters.old events.old owners.old) (reset (setup_of setup)) }
+    ) -> Answered<()>
+        ensures { outcome (ack_of result.answer) (state result.«record» masks.new counters.new events.new owners.new) ≡ step (state self masks.old counters.old events.old owners.old) (reset (setup_of setup)) }
     {
-        self.check_setup(setup, masks, counters, events, owners)?;
+        if let Err(why) = self.check_setup(setup, masks, counters, events, owners) {
+            return self.refused(why);
+        }
         reset_masks(setup, masks);
         counters.fill(0);
         events.fill(0);
         owners.fill(0);
-        *self = Record::fresh(setup);
-        Ok(())
+        Record::fresh(setup).answered(())
     }
 }

@@ -1,16 +1,13 @@
-use Rattle.std.proofs.lemmas.Result.{err_from_is_err_and}
 use Rattle.capacity_model.specs.Calls.{write}
 use Rattle.capacity.proofs.Checks.{passes}
 use Rattle.capacity.proofs.Calls.{call_failed}
 use Rattle.capacity.proofs.Record.write.Goals as goal
 
-pub returns-in_err-check : goal.returns-in_err-check
-returns-in_err-check c =
-    let p = err_from_is_err_and c.from_residual.result c.from_residual.ensures.1 in
-    rw (p.1, p.2) (call_failed _ (write _ _ _) tt c.in_err-check.field-0.0 c.in_err-check.ensures)
+pub returns-in-Err : goal.returns-in-Err
+returns-in-Err c = rw c.refused.ensures (call_failed _ (write _ _ _) tt _ c.in-Err.ensures)
 
 pub named_pair-p-requires : goal.named_pair-p-requires
-named_pair-p-requires c = (passes _ c.in_ok-check.ensures).ranges
+named_pair-p-requires c = (passes _ c.in_default.ensures).ranges
 
 pub write_words-requires : goal.write_words-requires
-write_words-requires c = (passes _ c.in_ok-check.ensures).ranges
+write_words-requires c = (passes _ c.in_default.ensures).ranges
