@@ -141,7 +141,7 @@ impl Record {
     }
 
     pub fn write(
-        self,
+        mut self,
         masks: &mut [u64],
         counters: &mut [u64],
         events: &mut [u16],
@@ -172,6 +172,7 @@ impl Record {
         put(counters, i, left.counter);
         put(events, i, left.setting);
         flush_if(left.flushes, owners, counters, events, named_rcid(value));
-        left.record.answered(())
+        self = left.record;
+        self.answered(())
     }
 }
