@@ -17,11 +17,11 @@ use tables::pick;
 // STATUS of mon_ctl after an operation (Tables 5 and 11).
 #[derive(Clone, Copy)]
 pub enum MonStatus {
-    Completed = 1,
-    InvalidOp = 2,
-    InvalidMcid = 3,
-    InvalidEvent = 4,
-    InvalidAt = 5,
+    Completed,
+    InvalidOp,
+    InvalidMcid,
+    InvalidEvent,
+    InvalidAt,
 }
 
 impl MonStatus {
@@ -38,7 +38,13 @@ impl From<MonStatus> for u64 {
     fn from(status: MonStatus) -> u64
         ensures { Small (status_number status) 5 result }
     {
-        status as u64
+        match status {
+            MonStatus::Completed => 1,
+            MonStatus::InvalidOp => 2,
+            MonStatus::InvalidMcid => 3,
+            MonStatus::InvalidEvent => 4,
+            MonStatus::InvalidAt => 5,
+        }
     }
 }
 
