@@ -209,10 +209,10 @@ module _ (s : State) (offset v : ℕ) where
   unfolding write_at write_bw
   write_bw_at w e q = rw (e, q) refl
 
-  pub write_mon_at : (st : ℕ) (m : Monitor) → offset ≡ 8 → st ≡ mon_status s.setup.na s.setup.nm Bandwidth v → m ≡ mon_after s.setup.na st s.monitor v
+  pub write_mon_at : (st : ℕ) (m : Monitor) → offset ≡ 8 → Small (mon_status s.setup.na s.setup.nm Bandwidth v) 5 st → m ≡ mon_after s.setup.na st s.monitor v
       → record { setup = s.setup; alloc = s.alloc; usage = s.usage; monitor = m; waiters = s.waiters } ≡ write_at s offset v
   unfolding write_at write_mon
-  write_mon_at st m e g q = rw (e, q, g) refl
+  write_mon_at st m e g q = rw (e, q, g.is) refl
 
   pub write_none : (offset ≡ 24 → ⊥) → (offset ≡ 32 → ⊥) → (offset ≡ 8 → ⊥) → s ≡ write_at s offset v
   unfolding write_at

@@ -201,7 +201,7 @@ module _ {l : Lent} {h : Held} (p : Passing l h) where
         same_bytes _ _ _ _ _ _ _ _ _ _ _ _ _ _ refl x.active.bytes_are x.configured.bytes_are x.used.bytes_are x.counters.bytes_are x.events.bytes_are x.waiters.bytes_are
         ∙ ap lent_of (write_bw_at (state_in l old) offset v w e q)
 
-    pub mon_written : {st : ℕ} {r : Registers} {N E : List ℕ} → offset ≡ 8 → st ≡ mon_status su.na su.nm Bandwidth v
+    pub mon_written : {st : ℕ} {r : Registers} {N E : List ℕ} → offset ≡ 8 → Small (mon_status su.na su.nm Bandwidth v) 5 st
         → ((ns es : List ℕ) → Holds 8 l.counters ns → Holds 2 l.events es
         → monitor.Stores (mon_after su.na st (monitor_of (record { ctl = old.mon_ctl; value = old.mon_ctr_val }) ns es) v) r N E)
         → lent (bytes_of_all 8 (words_in (record { setup = old.setup; mon_ctl = r.ctl; mon_ctr_val = r.value; alloc_ctl = old.alloc_ctl; bw_alloc = old.bw_alloc; pool = old.pool })))

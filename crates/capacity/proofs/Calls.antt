@@ -86,10 +86,10 @@ module _ (s : State) (size offset v : ℕ) where
       let other : offset ≡ 24 → ⊥ = λ h. ⊎_elim (λ (k : offset ≡ 32). omega arith) (λ (k : offset ≡ 36). omega arith) e in
       rw (r, q, inside, ne_eqb offset 24 other) refl
 
-  write_mon_at : (st : ℕ) (m : Monitor) → offset ≡ 8 → st ≡ mon_status s.setup.na s.setup.nm Capacity v → m ≡ mon_after s.setup.na st s.monitor v
+  write_mon_at : (st : ℕ) (m : Monitor) → offset ≡ 8 → Small (mon_status s.setup.na s.setup.nm Capacity v) 5 st → m ≡ mon_after s.setup.na st s.monitor v
       → with_monitor s m ≡ write_at s size offset v
   unfolding write_at write_mon
-  write_mon_at st m e g q = rw (e, q, g) refl
+  write_mon_at st m e g q = rw (e, q, g.is) refl
 
   write_none : first (access.write_checks access.registers_end size offset v) 0 ≡ 0 → (offset ≡ 24 → ⊥) → ((offset ≡ 32) ⊎ (offset ≡ 36) → ⊥) → (offset ≡ 8 → ⊥) → s ≡ write_at s size offset v
   unfolding write_at
@@ -128,7 +128,7 @@ module _ (s : State) (size offset v mask counter setting : ℕ) (n : WordsIn s v
       → left s.monitor.ctl s.monitor.value s.alloc.ctl m mask counter setting false ≡ write_at s size offset v
   mask_stored w m e q r = rw (masks_kept, counters_kept, events_kept) (write_mask_at s size offset v w m e q r)
 
-  pub mon_stored : (st : ℕ) (x : MonWords) → offset ≡ 8 → st ≡ mon_status s.setup.na s.setup.nm Capacity v → WordsAfter s.setup.na st s.monitor.value counter setting v x
+  pub mon_stored : (st : ℕ) (x : MonWords) → offset ≡ 8 → Small (mon_status s.setup.na s.setup.nm Capacity v) 5 st → WordsAfter s.setup.na st s.monitor.value counter setting v x
       → left x.ctl x.value s.alloc.ctl s.alloc.mask mask x.counter x.setting false ≡ write_at s size offset v
   mon_stored st x e g w =
       rw masks_kept

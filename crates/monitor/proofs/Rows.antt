@@ -1,10 +1,11 @@
 -- What the row in which EVT_ID stands tells of it.
 use mathlib.Core.Path.{◌≡◌, refl}
-use mathlib.Core.Bool.{Bool, true, false, cond, not, ◌||◌}
+use mathlib.Core.Bool.{true, false, not, ◌||◌}
 use Prim.Native.Nat.{ℕ, ◌≤◌, ◌<◌}
 use native.Mathlib.Omega.{arith}
-use lib.Dec.{T, eqb}
+use lib.Dec.{T}
 use Rattle.std.proofs.Math.Bool.{and-false}
+use Rattle.std.proofs.lemmas.Bool.{ne_eqb}
 use Rattle.tables.proofs.Tests.{or_l, or_r, is_true, not_both}
 use Rattle.tables.specs.Below.{between}
 use Rattle.codes.specs.Codes.{◌has◌, ◌to◌, no_event, mon_ops, bandwidth_events, capacity_events}
@@ -20,8 +21,7 @@ use Rattle.codes.proofs.Rows.{first_le, single_above, code_of, reserved_op, cust
 use Rattle.codes.proofs.Tables.{bandwidth_in_one, capacity_in_one}
 use Rattle.monitor.specs.Monitor.{counts_event, unknown_event}
 use Rattle.monitor.specs.Bytes.{counts_kind}
-use Rattle.monitor.specs.View.{status_number, EffectOf}
-use Rattle.monitor.specs.declared.status.MonStatus.{MonStatus}
+use Rattle.monitor.specs.View.{EffectOf}
 use Rattle.monitor.specs.declared.status.Effect.{Effect}
 use Rattle.monitor.specs.declared.status.Effect.TheVariants.{Nothing, Configures, Reads}
 
@@ -93,7 +93,7 @@ row_effect row.Reserved = Nothing
 row_effect row.Custom = Nothing
 
 -- where it ended with STATUS 1
-pub effect_by : (op status : ℕ) → eqb status 1 ≡ true → (r : MonOp) → T (mon_ops r has op) → EffectOf op status (row_effect r)
+pub effect_by : (op status : ℕ) → status ≡ 1 → (r : MonOp) → T (mon_ops r has op) → EffectOf op status (row_effect r)
 unfolding mon_ops ◌has◌ between
 effect_by op status e row.ReservedZero t = let o = code_of 0 op t in record { configures_is = rw o refl; reads_is = rw o refl }
 effect_by op status e row.ConfigEvent t = let o = code_of 1 op t in record { configures_is = rw (o, e) refl; reads_is = rw o refl }
@@ -102,12 +102,7 @@ effect_by op status e row.Reserved t = let o = reserved_op op t in record { conf
 effect_by op status e row.Custom t = let o = custom_op op t in record { configures_is = rw o.not1 refl; reads_is = rw o.not2 refl }
 
 -- and where it did not
-pub no_effect : (op status : ℕ) → eqb status 1 ≡ false → EffectOf op status Nothing
-no_effect op status e =
+pub no_effect : (op status : ℕ) → (status ≡ 1 → ⊥) → EffectOf op status Nothing
+no_effect op status f =
+    let e = ne_eqb status 1 f in
     record { configures_is = rw (e, and-false (mon_ops row.ConfigEvent has op)) refl; reads_is = rw (e, and-false (mon_ops row.ReadCounter has op)) refl }
-
--- ---- the number of a STATUS that is one of two
-
-pub picked : (b : Bool) (x y : MonStatus) → status_number (cond b x y) ≡ cond b (status_number x) (status_number y)
-picked true x y = refl
-picked false x y = refl

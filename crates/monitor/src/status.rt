@@ -3,9 +3,10 @@ ghost use Rattle.std.specs.Prelude.{◌≡◌, cond, ◌&&◌, [], ◌∷◌, �
 ghost use Rattle.tables.specs.View.{Small};
 ghost use Rattle.access.specs.Checks.{◌gives◌, first};
 ghost use Rattle.codes.specs.Codes.{◌has◌, mon_ops};
+ghost use Rattle.codes.specs.declared.Resource.TheVariants as resource;
 ghost use Rattle.codes.specs.declared.MonOp.TheVariants as row;
 ghost use Rattle.monitor.specs.Monitor.{invalid_op, unknown_event, mon_status};
-ghost use Rattle.monitor.specs.View.{status_number, configures, reads, EffectOf};
+ghost use Rattle.monitor.specs.View.{configures, reads, EffectOf};
 
 use crate::unpack_held;
 use codes::{
@@ -14,52 +15,17 @@ use codes::{
 use fields::MonCtl;
 use tables::pick;
 
-// STATUS of mon_ctl after an operation (Tables 5 and 11).
-#[derive(Clone, Copy)]
-pub enum MonStatus {
-    Completed,
-    InvalidOp,
-    InvalidMcid,
-    InvalidEvent,
-    InvalidAt,
-}
-
-impl MonStatus {
-    pub fn is_completed(self) -> bool
-        ensures { result ≡ eqb (status_number self) 1 }
-    {
-        matches!(self, MonStatus::Completed)
-    }
-}
-
-impl From<MonStatus> for u64 {
-    ghost from_gives = { λ status n. Small (status_number status) 5 n };
-
-    fn from(status: MonStatus) -> u64
-        ensures { Small (status_number status) 5 result }
-    {
-        match status {
-            MonStatus::Completed => 1,
-            MonStatus::InvalidOp => 2,
-            MonStatus::InvalidMcid => 3,
-            MonStatus::InvalidEvent => 4,
-            MonStatus::InvalidAt => 5,
-        }
-    }
-}
-
 // The STATUS of CONFIG_EVENT by ATV and AT.
-fn at_status(na: u64, ctl: MonCtl) -> MonStatus
-    ensures { status_number result ≡ first (((eqb ctl.atv 1 && leb na ctl.at) gives 5) ∷ []) 1 }
+fn at_status(na: u64, ctl: MonCtl) -> u64
+    ensures { result ≡ first (((eqb ctl.atv 1 && leb na ctl.at) gives 5) ∷ []) 1 }
 {
-    let absent = (ctl.atv == 1) & (na <= ctl.at);
-    pick(absent, MonStatus::InvalidAt, MonStatus::Completed)
+    pick((ctl.atv == 1) & (na <= ctl.at), 5, 1)
 }
 
 // The STATUS of CONFIG_EVENT by EVT_ID, `otherwise` where the controller knows the event.
-fn event_status(resource: Resource, event: u64, otherwise: MonStatus) -> MonStatus
+fn event_status(resource: Resource, event: u64, otherwise: u64) -> u64
     requires { event < 256 }
-    ensures { status_number result ≡ first ((unknown_event resource event gives 4) ∷ []) (status_number otherwise) }
+    ensures { result ≡ first ((unknown_event resource event gives 4) ∷ []) otherwise }
 {
     match resource {
         Resource::Bandwidth => match bandwidth_event(event) {
@@ -67,36 +33,36 @@ fn event_status(resource: Resource, event: u64, otherwise: MonStatus) -> MonStat
             BandwidthEvent::TotalReadWrite => otherwise,
             BandwidthEvent::TotalRead => otherwise,
             BandwidthEvent::TotalWrite => otherwise,
-            BandwidthEvent::Reserved => MonStatus::InvalidEvent,
-            BandwidthEvent::Custom => MonStatus::InvalidEvent,
+            BandwidthEvent::Reserved => 4,
+            BandwidthEvent::Custom => 4,
         },
         Resource::Capacity => match capacity_event(event) {
             CapacityEvent::None => otherwise,
             CapacityEvent::Occupancy => otherwise,
-            CapacityEvent::Reserved => MonStatus::InvalidEvent,
-            CapacityEvent::Custom => MonStatus::InvalidEvent,
+            CapacityEvent::Reserved => 4,
+            CapacityEvent::Custom => 4,
         },
     }
 }
 
 // The STATUS by OP and MCID; `event` is the one by EVT_ID, ATV and AT, which count for CONFIG_EVENT alone.
-fn op_status(nm: u64, ctl: MonCtl, event: MonStatus) -> MonStatus
+fn op_status(nm: u64, ctl: MonCtl, event: u64) -> u64
     requires { ctl.op < 32 }
-    ensures { status_number result ≡ first ((invalid_op ctl.op gives 2) ∷ (leb nm ctl.mcid gives 3) ∷ []) (cond (mon_ops row.ConfigEvent has ctl.op) (status_number event) 1) }
+    ensures { result ≡ first ((invalid_op ctl.op gives 2) ∷ (leb nm ctl.mcid gives 3) ∷ []) (cond (mon_ops row.ConfigEvent has ctl.op) event 1) }
 {
     let absent = nm <= ctl.mcid;
     match mon_op(ctl.op) {
-        MonOp::ReservedZero => MonStatus::InvalidOp,
-        MonOp::ConfigEvent => pick(absent, MonStatus::InvalidMcid, event),
-        MonOp::ReadCounter => pick(absent, MonStatus::InvalidMcid, MonStatus::Completed),
-        MonOp::Reserved => MonStatus::InvalidOp,
-        MonOp::Custom => MonStatus::InvalidOp,
+        MonOp::ReservedZero => 2,
+        MonOp::ConfigEvent => pick(absent, 3, event),
+        MonOp::ReadCounter => pick(absent, 3, 1),
+        MonOp::Reserved => 2,
+        MonOp::Custom => 2,
     }
 }
 
 // The STATUS of a value written to mon_ctl.
-pub fn mon_status(resource: Resource, na: u64, nm: u64, v: u64) -> MonStatus
-    ensures { status_number result ≡ mon_status na nm resource v }
+pub fn mon_status(resource: Resource, na: u64, nm: u64, v: u64) -> u64
+    ensures { Small (mon_status na nm resource v) 5 result }
 {
     let ctl = unpack_held(na, v);
     op_status(
@@ -104,6 +70,18 @@ pub fn mon_status(resource: Resource, na: u64, nm: u64, v: u64) -> MonStatus
         ctl,
         event_status(resource, ctl.evtid, at_status(na, ctl)),
     )
+}
+
+pub fn bandwidth_status(na: u64, nm: u64, v: u64) -> u64
+    ensures { Small (mon_status na nm resource.Bandwidth v) 5 result }
+{
+    mon_status(Resource::Bandwidth, na, nm, v)
+}
+
+pub fn capacity_status(na: u64, nm: u64, v: u64) -> u64
+    ensures { Small (mon_status na nm resource.Capacity v) 5 result }
+{
+    mon_status(Resource::Capacity, na, nm, v)
 }
 
 // What an operation does: nothing, configure a counter, or read one.
@@ -129,11 +107,11 @@ impl Effect {
 }
 
 // What the operation of this OP does, where it ended with this STATUS.
-pub fn effect_of(op: u64, status: MonStatus) -> Effect
+pub fn effect_of(op: u64, status: u64) -> Effect
     requires { op < 32 }
-    ensures { EffectOf op (status_number status) result }
+    ensures { EffectOf op status result }
 {
-    let done = status.is_completed();
+    let done = status == 1;
     if done {
         match mon_op(op) {
             MonOp::ReservedZero => Effect::Nothing,

@@ -7,11 +7,11 @@ ghost use Rattle.tables.specs.Parts.{part};
 ghost use Rattle.words.specs.Words.{bytes_of_all, table_of, Holds};
 ghost use Rattle.monitor.specs.Monitor.{counter_fields, counter_ctr, counter_ok, setting_ok, mon_after};
 ghost use Rattle.monitor.specs.Bytes.{counts_request, added};
-ghost use Rattle.monitor.specs.View.{monitor_of, status_number};
+ghost use Rattle.monitor.specs.View.{monitor_of};
 ghost use Rattle.monitor_bytes.specs.Monitor.{Stores};
 
 use codes::Resource;
-use monitor::{MonStatus, Registers, counted_bytes, mon_after, named_mcid, union_ok};
+use monitor::{Registers, counted_bytes, mon_after, named_mcid, union_ok};
 use words::{load_part, put, union64, word};
 
 // Whether every counter is well formed.
@@ -70,14 +70,15 @@ pub fn count_bytes(
 // The write of v to mon_ctl with its operation's STATUS.
 pub fn write_mon(
     na: u64,
-    status: MonStatus,
+    status: u64,
     registers: Registers,
     counters: &mut [u8],
     events: &mut [u8],
     v: u64,
 ) -> Registers
+    requires { status < 128 }
     ensures { (ns es : List ℕ) → Holds 8 counters.old ns → Holds 2 events.old es
-        → Stores (mon_after na (status_number status) (monitor_of registers ns es) v) result counters.new events.new }
+        → Stores (mon_after na status (monitor_of registers ns es) v) result counters.new events.new }
 {
     let i = named_mcid(v);
     let left = mon_after(
