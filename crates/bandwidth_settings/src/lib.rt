@@ -147,7 +147,7 @@ pub fn write_row(setup: Setup, row: &mut [u32], reserved: u64, bw: u64, v: u64) 
     let effect = effect_of(Resource::Bandwidth, f.op, status);
     settle_row(effect.sets(), row, at, stored_word(bw));
     Written {
-        ctl: alloc_word(f, u64::from(status)),
+        ctl: alloc_word(f, status),
         bw: pick(effect.reads(), old, bw),
     }
 }

@@ -9,7 +9,7 @@ use lib.Dec.{leb, ltb, eqb, leb→le, le→leb, ltb→lt, lt→ltb, eqb→eq}
 use lib.ListN.{drop, replicate}
 use lib.Pow.{pow_pos}
 use Rattle.tables.specs.Below.{all_below}
-use Rattle.tables.specs.View.{union_below}
+use Rattle.tables.specs.View.{union_below, Small}
 use Rattle.tables.proofs.Tests.{eqb_in, same_test}
 use Rattle.tables.proofs.Laws.{all_same, drop_replicate}
 use Rattle.tables.proofs.Union.{low_test, union_low}
@@ -54,13 +54,13 @@ masks_test su n f =
 
 -- the operation of alloc_ctl, from what each step gives of the mask of the pair that it names
 module _ (su : Setup) (v operand mask st : ℕ) (effect : Effect) (f : AllocCtl) (x : AllocWords) (g : AllocFields su.na v f)
-    (s : st ≡ allocation.operation_status Capacity su.nr su.na (eqb operand 0) v) (d : EffectOf Capacity f.op st effect) where
+    (s : Small (allocation.operation_status Capacity su.nr su.na (eqb operand 0) v) 5 st) (d : EffectOf Capacity f.op st effect) where
   pub alloc_words : x.ctl ≡ pack alloc_ctl (0 ∷ st ∷ f.rcid ∷ f.at ∷ f.op ∷ []) → x.operand ≡ cond (reads effect) mask operand → x.mask ≡ cond (sets effect) operand mask
       → x.flushes ≡ flushes effect → AllocAfter su operand mask v x
   unfolding write_alloc allocation.alloc_word bad_mask allocation.operand_after allocation.table_after allocation.succeeds allocation.performs word_at
   alloc_words c o m k = record {
-    words = λ masks e. rw (m, o, d.sets_is, d.reads_is, c, e, s, g.op_is, g.at_is, g.rcid_is, put_back) refl;
-    flushes_is = rw (k, d.flushes_is, s, g.op_is) refl;
+    words = λ masks e. rw (m, o, d.sets_is, d.reads_is, c, e, s.is, g.op_is, g.at_is, g.rcid_is, put_back) refl;
+    flushes_is = rw (k, d.flushes_is, s.is, g.op_is) refl;
   }
 
 -- 0 everywhere, then every block for RCID 0

@@ -94,7 +94,7 @@ pub fn alloc_after(setup: Setup, operand: u64, mask: u64, v: u64) -> AllocWords
     let status = alloc_status(Resource::Capacity, setup.nr, setup.na, operand == 0, v);
     let effect = effect_of(Resource::Capacity, f.op, status);
     AllocWords {
-        ctl: alloc_word(f, u64::from(status)),
+        ctl: alloc_word(f, status),
         operand: pick(effect.reads(), mask, operand),
         mask: pick(effect.sets(), operand, mask),
         flushes: effect.flushes(),

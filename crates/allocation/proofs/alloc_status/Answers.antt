@@ -1,22 +1,32 @@
-use mathlib.Core.Path.{refl}
-use Rattle.codes.specs.declared.AllocOp.TheVariants.{ReservedZero, ConfigLimit, ReadLimit, FlushRcid, Reserved, Custom}
-use Rattle.allocation.proofs.Status.{by_fields, picked}
+use Rattle.allocation.proofs.Status.{by_fields}
 use Rattle.allocation.proofs.alloc_status.Goals as goal
 
 pub returns-in-ReservedZero : goal.returns-in-ReservedZero
-returns-in-ReservedZero c = by_fields _ _ _ _ _ c.held_fields-f.ensures ReservedZero c.in-ReservedZero.ensures _ refl
+returns-in-ReservedZero c =
+    let o = c.before in
+    by_fields _ _ _ _ _ o.held_fields-f.ensures o.alloc_op.result o.alloc_op.ensures _ (rw c.in-ReservedZero.is)
 
 pub returns-in-ConfigLimit : goal.returns-in-ConfigLimit
-returns-in-ConfigLimit c = by_fields _ _ _ _ _ c.held_fields-f.ensures ConfigLimit c.in-ConfigLimit.ensures _ (rw (c.pair_status.ensures, c.pick.ensures, picked))
+returns-in-ConfigLimit c =
+    let o = c.before in
+    by_fields _ _ _ _ _ o.held_fields-f.ensures o.alloc_op.result o.alloc_op.ensures _ (rw (c.in-ConfigLimit.is, c.pair_status.ensures, o.pick-operand.ensures))
 
 pub returns-in-ReadLimit : goal.returns-in-ReadLimit
-returns-in-ReadLimit c = by_fields _ _ _ _ _ c.held_fields-f.ensures ReadLimit c.in-ReadLimit.ensures _ c.pair_status-in-ReadLimit.ensures
+returns-in-ReadLimit c =
+    let o = c.before in
+    by_fields _ _ _ _ _ o.held_fields-f.ensures o.alloc_op.result o.alloc_op.ensures _ (rw (c.in-ReadLimit.is, c.pair_status-in-ReadLimit.ensures))
 
 pub returns-in-FlushRcid : goal.returns-in-FlushRcid
-returns-in-FlushRcid c = by_fields _ _ _ _ _ c.held_fields-f.ensures FlushRcid c.in-FlushRcid.ensures _ (rw (c.pick-in-FlushRcid.ensures, picked))
+returns-in-FlushRcid c =
+    let o = c.before in
+    by_fields _ _ _ _ _ o.held_fields-f.ensures o.alloc_op.result o.alloc_op.ensures _ (rw (c.in-FlushRcid.is, c.pick.ensures))
 
 pub returns-in-Reserved : goal.returns-in-Reserved
-returns-in-Reserved c = by_fields _ _ _ _ _ c.held_fields-f.ensures Reserved c.in-Reserved.ensures _ refl
+returns-in-Reserved c =
+    let o = c.before in
+    by_fields _ _ _ _ _ o.held_fields-f.ensures o.alloc_op.result o.alloc_op.ensures _ (rw c.in-Reserved.is)
 
 pub returns-in-Custom : goal.returns-in-Custom
-returns-in-Custom c = by_fields _ _ _ _ _ c.held_fields-f.ensures Custom c.in-Custom.ensures _ refl
+returns-in-Custom c =
+    let o = c.before in
+    by_fields _ _ _ _ _ o.held_fields-f.ensures o.alloc_op.result o.alloc_op.ensures _ (rw c.in-Custom.is)

@@ -25,5 +25,8 @@ steps su sum bw v st old word ctl new row left bad effect f h e₁ e₂ d e₃ e
 
 pub returns : goal.returns
 returns c =
-    steps _ _ _ _ _ _ _ _ _ _ _ _ _ _ c.held_fields-f.ensures c.bad_operand-bad.ensures c.alloc_status-status.ensures c.effect_of-effect.ensures
-    (c.from-old.ensures ∙ c.word.ensures) c.stored_word.ensures.is (cc) (cc) (cc)
+    let s = c.before in
+    let e = s.before in
+    let t = e.before in
+    steps _ _ _ _ _ _ _ _ _ _ _ _ _ _ t.held_fields-f.ensures t.bad_operand-bad.ensures t.alloc_status-status.ensures.is e.effect_of-effect.ensures
+    (e.from-old.ensures ∙ e.word.ensures) s.stored_word.ensures.is (cc) c.alloc_word.ensures (cc)
