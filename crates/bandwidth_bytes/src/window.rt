@@ -1,5 +1,5 @@
 // Window ends on bytes.
-ghost use Rattle.std.specs.Prelude.{◌≡◌, []};
+ghost use Rattle.std.specs.Prelude.{◌≡◌, [], length};
 ghost use Rattle.access.specs.View.{refusal_in};
 ghost use Rattle.replies.specs.Replies.{reply};
 ghost use Rattle.bandwidth_model.specs.Calls.{end_window};
@@ -10,6 +10,16 @@ use access::Refusal;
 use bandwidth_lent::{Held, checked};
 use bandwidth_service::{serve_all, weights_of};
 use words::{put, union64};
+
+// Copies bytes over as many others. The library's copy calls memmove, and the C library calls nothing but memcpy and memset.
+fn copy_bytes(to: &mut [u8], from: &[u8])
+    requires { length to.old ≡ length from.now }
+    ensures { to.new ≡ from.now }
+{
+    for i in 0..to.len() {
+        to[i] = from[i];
+    }
+}
 
 // Takes the settings configured into force, with nothing used, and serves the waiters, if there are any.
 fn open_window(
@@ -28,7 +38,7 @@ fn open_window(
     let given = held.record;
     let totals = held.totals;
     let setup = given.setup;
-    active.copy_from_slice(configured);
+    copy_bytes(active, configured);
     used.fill(0);
     if union64(waiters) == 0 {
         put(record, 11, 0u64);

@@ -5,13 +5,13 @@ use Rattle.bandwidth_bytes.proofs.Windows.{window_still, window_weighs, window_b
 use Rattle.bandwidth_bytes.proofs.window.open_window.Goals as goal
 
 -- the tables of settings are of one length
-pub copy_from_slice-requires : goal.copy_from_slice-requires
-copy_from_slice-requires c =
+pub copy_bytes-requires : goal.copy_bytes-requires
+copy_bytes-requires c =
     let z = c.requires.long.tables in
     z.active_long ∙ sym z.configured_long
 
 pub returns-then-union64-eq0 : goal.returns-then-union64-eq0
-returns-then-union64-eq0 c = window_still c.requires _ _ _ c.put.ensures c.copy_from_slice.ensures.after (c.fill.ensures.after (λ n e. e)) c.union64.ensures c.if-union64-eq0.true
+returns-then-union64-eq0 c = window_still c.requires _ _ _ c.put.ensures c.copy_bytes.ensures (c.fill.ensures.after (λ n e. e)) c.union64.ensures c.if-union64-eq0.true
 
 pub overflow_mul-size : goal.overflow_mul-size
 overflow_mul-size c =
@@ -28,5 +28,5 @@ serve_all-pool-requires c =
 
 pub returns : goal.returns
 returns c =
-    window_turned c.requires (c.fill.ensures.after (λ n e. e)) c.saturating_sub.ensures c.weights_of-weights.ensures _ _ _ _ _ c.put-2.ensures c.copy_from_slice.ensures.after
+    window_turned c.requires (c.fill.ensures.after (λ n e. e)) c.saturating_sub.ensures c.weights_of-weights.ensures _ _ _ _ _ c.put-2.ensures c.copy_bytes.ensures
     c.serve_all-pool.ensures
