@@ -1,5 +1,5 @@
 // Little-endian words in bytes, over their width.
-ghost use Rattle.std.specs.Prelude.{◌≡◌, List, ℕ, ◌+◌, ◌*◌, ◌≤◌, length, map, take, drop};
+ghost use Rattle.std.specs.Prelude.{◌≡◌, List, ℕ, ◌+◌, ◌*◌, ◌<◌, ◌≤◌, length, map, take, drop};
 ghost use Rattle.std.proofs.Common.{sym};
 ghost use Rattle.std.proofs.Math.Dec.{lit≤};
 ghost use Rattle.std.proofs.lemmas.List.{map-id};
@@ -32,14 +32,13 @@ pub trait LittleEndian: Copy {
     ghost numbers_are: { (words : List Self) → numbers words ≡ map number words };
 }
 
-// The N bytes at `at`.
+// The N bytes at `at`. A copy of a slice would keep the compiler from vectorising the loops that load words.
 fn chunk<const N: usize>(bytes: &[u8], at: usize) -> [u8; N]
-    requires { at + N ≤ length bytes.now }
+    requires { (0 < N) × (at + N ≤ length bytes.now) }
     ensures { result ≡ take N (drop at bytes.now) }
 {
-    let mut chunk = [0u8; N];
-    chunk.copy_from_slice(&bytes[at..at + N]);
-    chunk
+    let (chunks, _) = bytes[at..at + N].as_chunks::<N>();
+    chunks[0]
 }
 
 impl LittleEndian for u16 {
