@@ -17,6 +17,7 @@ use Rattle.access.specs.declared.Refusal.TheVariants.{Identifier}
 use Rattle.access.specs.Access.{registers_end, read_checks, write_checks}
 use Rattle.access.specs.Pairs.{known_at}
 use Rattle.access.proofs.Pairs.{known_lt}
+use Rattle.tables.specs.View.{Small}
 use Rattle.tables.specs.Parts.{part, with_part, RowAt}
 use Rattle.tables.proofs.Tests.{cases, nor_l, nor_r, not_in, is_true, is_false, of_true, of_false}
 use Rattle.monitor.specs.Monitor.{Monitor, cleared, mon_status, mon_after, write_mon, counted}
