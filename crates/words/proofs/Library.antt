@@ -1,13 +1,11 @@
 -- A word by the library's bytes of a number.
-use Rattle.std.proofs.Common.{◌≡◌, ℕ, zero, suc, ◌+◌, ◌-◌, ◌*◌, ◌/◌, ◌%◌, ◌^◌, ◌≤◌, ◌<◌, List, length, get_or, take, drop, refl, sym, ap, ◌∙◌, arith, length-drop}
-use Rattle.std.proofs.Math.Nat.{div-one, div-div-eq-div-mul, pow-succ', mul_comm, zero-add, zero-mul, suc-mul, add_comm}
+use Rattle.std.proofs.Common.{◌≡◌, ℕ, zero, suc, ◌+◌, ◌*◌, ◌^◌, ◌≤◌, ◌<◌, List, length, get_or, take, drop, sym, ap, ◌∙◌, arith, length-drop}
+use Rattle.std.proofs.Math.Nat.{zero-add, zero-mul, suc-mul, add_comm}
 use Rattle.std.proofs.Math.Numerals.{add-one}
 use Rattle.std.proofs.Math.Seq.{length-take-le, take_all, drop-drop}
-use Rattle.std.proofs.lemmas.List.{append_assoc}
 use Rattle.std.specs.Simd.{first_chunks}
-use Rattle.std.specs.Int.{byte_at, byte_worth, bytes_low_first, sum_through}
-use Rattle.tables.specs.Parts.{with_part}
-use Rattle.words.specs.Words.{word_of, bytes_of, stored}
+use Rattle.std.specs.Int.{byte_worth, sum_through}
+use Rattle.words.specs.Words.{word_of}
 use Rattle.words.proofs.OneWord.{word_join, word_byte}
 
 -- the number of k + 1 bytes
@@ -24,24 +22,6 @@ pub chunk_word : (k at : ℕ) (bytes chunk : List ℕ) → at + (k + 1) ≤ leng
 chunk_word k at bytes chunk h e =
     let long : length chunk ≡ k + 1 = ap length e ∙ length-take-le (k + 1) (drop at bytes) (rw length-drop (omega arith)) in
     bytes_worth k chunk (omega arith) ∙ ap word_of (take_all (suc k) chunk (omega arith) ∙ e)
-
--- the bytes of a number from byte i on
-low_first : (i k w : ℕ) → bytes_low_first i k w ≡ bytes_of k (w / 256 ^ i)
-unfolding bytes_of
-low_first i zero w = refl
-low_first i (suc k) w = rw (one i, low_first (suc i) k w, div-div-eq-div-mul, pow-succ', mul_comm (256 ^ i))
-  where
-    one : (i : ℕ) → byte_at i w ≡ w / 256 ^ i % 256
-    one zero = rw div-one
-    one (suc i) = refl
-
--- a number's k low bytes over those at at
-pub put_bytes : (k at w : ℕ) (bs new : List ℕ) → new ≡ bytes_low_first 0 k w → with_part at (at + k - at) bs new ≡ stored k bs at w
-unfolding stored
-put_bytes k at w bs new e =
-    let low : new ≡ bytes_of k w = e ∙ low_first 0 k w ∙ rw div-one in
-    let n : at + k - at ≡ k = omega arith in
-    rw (low, n, drop-drop, append_assoc)
 
 -- chunk i of bytes
 pub chunk_at : (n k i : ℕ) (bs d : List ℕ) → i < k → get_or (first_chunks n k bs) i d ≡ take n (drop (i * n) bs)

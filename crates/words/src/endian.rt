@@ -41,6 +41,42 @@ fn chunk<const N: usize>(bytes: &[u8], at: usize) -> [u8; N]
     chunks[0]
 }
 
+// Stores the low byte of `w` at `at`. Bytes are stored one by one, each width as two of half the width: a copy of a slice would keep the compiler from
+// vectorising the loops that store words.
+fn store8(b: &mut [u8], at: usize, w: u64)
+    requires { at + 1 ≤ length b.old }
+    ensures { b.new ≡ stored 1 b.old at w }
+{
+    b[at] = (w % 256) as u8;
+}
+
+// Stores the 2 low bytes of `w` at `at`.
+fn store16(b: &mut [u8], at: usize, w: u64)
+    requires { at + 2 ≤ length b.old }
+    ensures { b.new ≡ stored 2 b.old at w }
+{
+    store8(b, at, w);
+    store8(b, at + 1, w / 256);
+}
+
+// Stores the 4 low bytes of `w` at `at`.
+fn store32(b: &mut [u8], at: usize, w: u64)
+    requires { at + 4 ≤ length b.old }
+    ensures { b.new ≡ stored 4 b.old at w }
+{
+    store16(b, at, w);
+    store16(b, at + 2, w / 65536);
+}
+
+// Stores the 8 bytes of `w` at `at`.
+fn store64(b: &mut [u8], at: usize, w: u64)
+    requires { at + 8 ≤ length b.old }
+    ensures { b.new ≡ stored 8 b.old at w }
+{
+    store32(b, at, w);
+    store32(b, at + 4, w / 4294967296);
+}
+
 impl LittleEndian for u16 {
     ghost number = { λ w. w };
 
@@ -55,7 +91,7 @@ impl LittleEndian for u16 {
     }
 
     fn store(self, bytes: &mut [u8], at: usize) {
-        bytes[at..at + 2].copy_from_slice(&self.to_le_bytes());
+        store16(bytes, at, u64::from(self));
     }
 
     ghost some_bytes = { lit≤ tt };
@@ -77,7 +113,7 @@ impl LittleEndian for u32 {
     }
 
     fn store(self, bytes: &mut [u8], at: usize) {
-        bytes[at..at + 4].copy_from_slice(&self.to_le_bytes());
+        store32(bytes, at, u64::from(self));
     }
 
     ghost some_bytes = { lit≤ tt };
@@ -99,7 +135,7 @@ impl LittleEndian for u64 {
     }
 
     fn store(self, bytes: &mut [u8], at: usize) {
-        bytes[at..at + 8].copy_from_slice(&self.to_le_bytes());
+        store64(bytes, at, self);
     }
 
     ghost some_bytes = { lit≤ tt };
