@@ -10,6 +10,7 @@ use lib.Dec.{T}
 use lib.ListN.{get_or, set, replicate}
 use lib.Seq.{set-get_or}
 use borrow.Author.Tests.{ne_eqb}
+use Rattle.tables.specs.View.{Small}
 use Rattle.access.specs.Access as access
 use Rattle.access.specs.Checks.{first}
 use Rattle.access.specs.Pairs.{word_at, known_at}
