@@ -3,7 +3,7 @@ ghost use Rattle.std.specs.Prelude.{◌≡◌, List, ℕ, ◌+◌, ◌*◌, ◌<
 ghost use Rattle.std.proofs.Common.{sym};
 ghost use Rattle.std.proofs.Math.Dec.{lit≤};
 ghost use Rattle.std.proofs.lemmas.List.{map-id};
-ghost use Rattle.words.specs.Words.{word_of, stored};
+ghost use Rattle.words.specs.Words.{word_of, bytes_of, stored};
 
 // A number that stands in bytes, the lowest first.
 pub trait LittleEndian: Copy {
@@ -26,6 +26,10 @@ pub trait LittleEndian: Copy {
     fn store(self, bytes: &mut [u8], at: usize)
         requires { at + BYTES ≤ length bytes.old }
         ensures { bytes.new ≡ stored BYTES bytes.old at (number self) };
+
+    // The word of a number's low bytes.
+    fn low(w: u64) -> Self
+        ensures { bytes_of BYTES (number result) ≡ bytes_of BYTES w };
 
     ghost some_bytes: { 1 ≤ BYTES };
 
@@ -94,6 +98,10 @@ impl LittleEndian for u16 {
         store16(bytes, at, u64::from(self));
     }
 
+    fn low(w: u64) -> u16 {
+        (w % 0x1_0000) as u16
+    }
+
     ghost some_bytes = { lit≤ tt };
 
     ghost numbers_are = { λ ws. sym (map-id ws) };
@@ -116,6 +124,10 @@ impl LittleEndian for u32 {
         store32(bytes, at, u64::from(self));
     }
 
+    fn low(w: u64) -> u32 {
+        (w % 0x1_0000_0000) as u32
+    }
+
     ghost some_bytes = { lit≤ tt };
 
     ghost numbers_are = { λ ws. sym (map-id ws) };
@@ -136,6 +148,10 @@ impl LittleEndian for u64 {
 
     fn store(self, bytes: &mut [u8], at: usize) {
         store64(bytes, at, self);
+    }
+
+    fn low(w: u64) -> u64 {
+        w
     }
 
     ghost some_bytes = { lit≤ tt };

@@ -6,8 +6,8 @@ mod entry;
 mod part;
 mod storage;
 
-ghost use Rattle.std.specs.Prelude.{◌≡◌, ◌*◌, ◌≤◌, length};
-ghost use Rattle.words.specs.Words.{words_of, bytes_of_all, with_word};
+ghost use Rattle.std.specs.Prelude.{◌≡◌, ◌+◌, ◌*◌, ◌≤◌, length};
+ghost use Rattle.words.specs.Words.{words_of, bytes_of_all, stored, with_word};
 
 pub use endian::LittleEndian;
 pub use entry::{union64, word};
@@ -41,4 +41,19 @@ pub fn put<W: LittleEndian>(bytes: &mut [u8], i: usize, w: W)
     if i < bytes.len() / W::BYTES {
         w.store(bytes, i * W::BYTES);
     }
+}
+
+// Stores the low bytes of w at `at`.
+pub fn store_low<W: LittleEndian>(bytes: &mut [u8], at: usize, w: u64)
+    requires { at + W.BYTES ≤ length bytes.old }
+    ensures { bytes.new ≡ stored W.BYTES bytes.old at w }
+{
+    W::low(w).store(bytes, at);
+}
+
+// Stores the low bytes of w as word i; a place outside changes nothing.
+pub fn put_low<W: LittleEndian>(bytes: &mut [u8], i: usize, w: u64)
+    ensures { bytes.new ≡ with_word W.BYTES bytes.old i w }
+{
+    put(bytes, i, W::low(w));
 }
