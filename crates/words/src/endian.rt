@@ -47,7 +47,7 @@ fn chunk<const N: usize>(bytes: &[u8], at: usize) -> [u8; N]
 
 // Stores the low byte of `w` at `at`. Bytes are stored one by one, each width as two of half the width: a copy of a slice would keep the compiler from
 // vectorising the loops that store words.
-fn store8(b: &mut [u8], at: usize, w: u64)
+fn store_byte(b: &mut [u8], at: usize, w: u64)
     requires { at + 1 ≤ length b.old }
     ensures { b.new ≡ stored 1 b.old at w }
 {
@@ -55,30 +55,30 @@ fn store8(b: &mut [u8], at: usize, w: u64)
 }
 
 // Stores the 2 low bytes of `w` at `at`.
-fn store16(b: &mut [u8], at: usize, w: u64)
+fn store_2(b: &mut [u8], at: usize, w: u64)
     requires { at + 2 ≤ length b.old }
     ensures { b.new ≡ stored 2 b.old at w }
 {
-    store8(b, at, w);
-    store8(b, at + 1, w / 256);
+    store_byte(b, at, w);
+    store_byte(b, at + 1, w / 256);
 }
 
 // Stores the 4 low bytes of `w` at `at`.
-fn store32(b: &mut [u8], at: usize, w: u64)
+fn store_4(b: &mut [u8], at: usize, w: u64)
     requires { at + 4 ≤ length b.old }
     ensures { b.new ≡ stored 4 b.old at w }
 {
-    store16(b, at, w);
-    store16(b, at + 2, w / 65536);
+    store_2(b, at, w);
+    store_2(b, at + 2, w / 65536);
 }
 
 // Stores the 8 bytes of `w` at `at`.
-fn store64(b: &mut [u8], at: usize, w: u64)
+fn store_8(b: &mut [u8], at: usize, w: u64)
     requires { at + 8 ≤ length b.old }
     ensures { b.new ≡ stored 8 b.old at w }
 {
-    store32(b, at, w);
-    store32(b, at + 4, w / 4294967296);
+    store_4(b, at, w);
+    store_4(b, at + 4, w / 4294967296);
 }
 
 impl LittleEndian for u16 {
@@ -95,7 +95,7 @@ impl LittleEndian for u16 {
     }
 
     fn store(self, bytes: &mut [u8], at: usize) {
-        store16(bytes, at, u64::from(self));
+        store_2(bytes, at, u64::from(self));
     }
 
     fn low(w: u64) -> u16 {
@@ -121,7 +121,7 @@ impl LittleEndian for u32 {
     }
 
     fn store(self, bytes: &mut [u8], at: usize) {
-        store32(bytes, at, u64::from(self));
+        store_4(bytes, at, u64::from(self));
     }
 
     fn low(w: u64) -> u32 {
@@ -147,7 +147,7 @@ impl LittleEndian for u64 {
     }
 
     fn store(self, bytes: &mut [u8], at: usize) {
-        store64(bytes, at, self);
+        store_8(bytes, at, self);
     }
 
     fn low(w: u64) -> u64 {

@@ -1,8 +1,8 @@
 use native.Mathlib.Omega.{arith}
 use Rattle.words.proofs.OneWord.{store_join}
-use Rattle.words.proofs.endian.store64.Goals as goal
+use Rattle.words.proofs.endian.store_4.Goals as goal
 
 pub returns : goal.returns
 returns c =
     let a = c.args in
-    cc (store_join 4 4 a.at a.w a.b.now (omega arith))
+    cc (store_join 2 2 a.at a.w a.b.now (omega arith))
