@@ -79,7 +79,7 @@ module _ (l : Lent) (r : Record) (w : words_in r ≡ words_of 8 12 l.«record»)
       )
 
   -- all that check 3 finds of the tables
-  tables_summed : {sums : Sums} {k e v : Bool} → Bytes l.active → Bytes l.configured
+  pub tables_summed : {sums : Sums} {k e v : Bool} → Bytes l.active → Bytes l.configured
       → Summed su.na su.q (table_of 4 l.active) (table_of 4 l.configured) (table_of 4 l.used) su.nr sums
       → k ≡ all_below (length (table_of 8 l.counters)) (λ i. counter_ok reg.bandwidth_counter reg.bandwidth_ctr su.w (get_or (table_of 8 l.counters) i 0))
       → e ≡ all_below (length (table_of 2 l.events)) (λ i. setting_ok su.na Bandwidth (get_or (table_of 2 l.events) i 0))
@@ -95,7 +95,7 @@ module _ (l : Lent) (r : Record) (w : words_in r ≡ words_of 8 12 l.«record»)
     waiters_are = v;
   }
 
-  words_held : Bytes l.«record» → Bytes l.active → Bytes l.configured → Bytes l.used → Bytes l.counters → Bytes l.events → Bytes l.waiters → Words l r
+  pub words_held : Bytes l.«record» → Bytes l.active → Bytes l.configured → Bytes l.used → Bytes l.counters → Bytes l.events → Bytes l.waiters → Words l r
   words_held b a c u n e v =
       let g = held_long.tables in
       record {

@@ -26,7 +26,7 @@ module _ (su : Setup) (l : Lent) where
   pub wrong_setup : length l.«record» ≡ record_length → setup_ok su ≡ false → 1 ≡ byte_refusal su l
   wrong_setup e t = rw (refusal_is, eq-eqb (length l.«record») record_length e, t) refl
 
-  wrong_lengths : length l.«record» ≡ record_length → setup_ok su ≡ true → cond (bytes_fit su l) 0 2 ≡ byte_refusal su l
+  pub wrong_lengths : length l.«record» ≡ record_length → setup_ok su ≡ true → cond (bytes_fit su l) 0 2 ≡ byte_refusal su l
   wrong_lengths e t = rw (refusal_is, eq-eqb (length l.«record») record_length e, t) refl
 
   -- the test of the lengths, with the pairs counted before
