@@ -15,10 +15,10 @@ pub returns-then-hex : goal.returns-then-hex
 returns-then-hex c =
     let a = c.args in
     let b = c.in_ok-get.ensures.lookup.3 in
-    rw c.if-hex.true (c.number.ensures ∙ field_at 16 a.line.now a.at b.0 (sym (b.1 0) ∙ c.if-branch-ne32.false))
+    rw c.if-hex.true (c.hex_number.ensures ∙ field_at 16 a.line.now a.at b.0 (sym (b.1 0) ∙ c.if-branch-ne32.false))
 
 pub returns-else-hex : goal.returns-else-hex
 returns-else-hex c =
     let a = c.args in
     let b = c.in_ok-get.ensures.lookup.3 in
-    rw c.if-hex.false (c.number-else-hex.ensures ∙ field_at 10 a.line.now a.at b.0 (sym (b.1 0) ∙ c.if-branch-ne32.false))
+    rw c.if-hex.false (c.number.ensures ∙ field_at 10 a.line.now a.at b.0 (sym (b.1 0) ∙ c.if-branch-ne32.false))
